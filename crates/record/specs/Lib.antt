@@ -1,0 +1,5 @@
+pub mod Kinds
+pub mod Making
+pub mod Made
+pub mod Ways
+pub mod Pars

@@ -1,0 +1,63 @@
+// The interface of a kind of record: its word, its number of fields, and its making.
+ghost use mathlib.Core.Path.{_≡_};
+ghost use mathlib.Core.List.{List};
+ghost use Prim.Native.Nat.{ℕ, _≤_};
+ghost use lib.IntN.{ℤ};
+ghost use lib.ListN.{length};
+ghost use Rattle.std.specs.shelf.Maps.{nth};
+ghost use Rattle.record.specs.declared.kind.Kind.{Kind};
+ghost use Rattle.record.specs.Making.{Making, Sound-making};
+ghost use Rattle.record.specs.Made.{made, All-made};
+use crate::kind::Kind;
+
+// The first field that is outside its limits, counted from 1.
+#[derive(Clone, Copy, PartialEq, Eq, Debug)]
+pub struct Fault {
+    pub field: u8,
+}
+
+// Only `make` gives a record, so one outside its kind's limits does not exist.
+pub trait Record: Copy {
+    // Which kind it is.
+    ghost kind: { Kind };
+
+    // How many fields it has.
+    ghost count: { ℕ };
+
+    // What a record means: its fields, in order.
+    ghost fields: { Self → List ℤ };
+
+    // What four numbers make: the fields of a record, or the first field at fault.
+    ghost making: { Making };
+
+    // The limits of the kind.
+    ghost within: { Self → Type 0 };
+
+    law some: { 1 ≤ count };
+
+    law few: { count ≤ 4 };
+
+    law full: { (x : Self) → length (fields x) ≡ count };
+    // A record has just the numbers that it was made of, and a kind reads no number but its own.
+    law sound: { Sound-making count making };
+
+    const KIND: Kind;
+
+    const COUNT: usize;
+
+    // The record of these numbers, of which a kind reads only its own, or the first field at fault.
+    fn make(a: i32, b: i32, c: i32, d: i32) -> Result<Self, Fault>
+        ensures gives { λ r. ⌜ made fields r ≡ making a b c d ⌝ }
+        ensures within { λ r. ⌜ All-made within r ⌝ };
+
+    // The two constants, for code that is written once for every kind.
+    fn own_kind() -> Kind
+        ensures { λ r. ⌜ r ≡ kind ⌝ };
+
+    fn field_count() -> usize
+        ensures { λ r. ⌜ r ≡ count ⌝ };
+
+    // The field at place i, counted from 0.
+    fn field(&self, i: usize) -> Option<i32>
+        ensures { λ r. ⌜ r ≡ nth (fields (now (self .entry))) i ⌝ };
+}

@@ -1,0 +1,80 @@
+-- What a scheme means, by sets of readers, and what each call answers and leaves. Assumes nothing.
+use mathlib.Core.Path.{_≡_}
+use mathlib.Core.Bool.{Bool, true, false, not, _&&_, _||_, cond}
+use Prim.Native.Nat.{ℕ, zero, suc, _<_}
+use lib.Dec.{eqb, ltb}
+
+-- who is inside, whether a wait is open, and whom that wait awaits
+pub record Meaning : Type 0 where
+  pub inside : ℕ → Bool
+  pub waits : Bool
+  pub awaited : ℕ → Bool
+
+-- what holds after any calls on a new scheme
+pub record Sound (m : Meaning) : Type 0 where
+  -- readers are numbered from 0 to 15
+  pub known : (r : ℕ) → m .inside r ≡ true → r < 16
+  -- awaited readers are inside
+  pub within : (r : ℕ) → m .awaited r ≡ true → m .inside r ≡ true
+  -- with no wait open nobody is awaited
+  pub quiet : (r : ℕ) → m .waits ≡ false → m .awaited r ≡ false
+
+-- ---- sets of readers
+
+abbrev pub nobody : ℕ → Bool
+nobody x = false
+
+-- the set f, but reader r is in it or not as b says
+abbrev pub updated : (ℕ → Bool) → ℕ → Bool → ℕ → Bool
+updated f r b x = cond (eqb x r) b (f x)
+
+-- whether one of the numbers below n is in f
+abbrev pub anybody-below : (ℕ → Bool) → ℕ → Bool
+anybody-below f zero = false
+anybody-below f (suc n) = f n || anybody-below f n
+
+-- whether a reader is in f
+unfoldable pub anybody : (ℕ → Bool) → Bool
+anybody f = anybody-below f 16
+
+-- ---- the meaning after a call that is accepted
+
+abbrev pub at-start : Meaning
+at-start = record { inside = nobody; waits = false; awaited = nobody }
+
+abbrev pub entered : Meaning → ℕ → Meaning
+entered m r = record { inside = updated (m .inside) r true; waits = m .waits; awaited = updated (m .awaited) r false }
+
+abbrev pub left : Meaning → ℕ → Meaning
+left m r = record { inside = updated (m .inside) r false; waits = m .waits; awaited = updated (m .awaited) r false }
+
+abbrev pub begun : Meaning → Meaning
+begun m = record { inside = m .inside; waits = true; awaited = m .inside }
+
+abbrev pub closed : Meaning → Meaning
+closed m = record { inside = m .inside; waits = false; awaited = nobody }
+
+-- ---- what each call answers, and the meaning that it leaves; what is refused leaves what there was
+
+pub record Outcome (A : Type 0) : Type 0 where
+  pub answer : A
+  pub leaves : Meaning
+
+abbrev pub may-enter : ℕ → Meaning → Bool
+may-enter r m = ltb r 16 && not (m .inside r)
+
+abbrev pub on-enter : ℕ → Meaning → Outcome Bool
+on-enter r m = record { answer = may-enter r m; leaves = cond (may-enter r m) (entered m r) m }
+
+abbrev pub on-leave : ℕ → Meaning → Outcome Bool
+on-leave r m = record { answer = m .inside r; leaves = cond (m .inside r) (left m r) m }
+
+abbrev pub on-begin : Meaning → Outcome Bool
+on-begin m = record { answer = not (m .waits); leaves = cond (m .waits) m (begun m) }
+
+-- a value before a call, the value that the call left and its answer: they go by the rule of the call.
+-- V says of which values the rule is promised, and the call leaves such a value
+pub record Follows {S A : Type 0} (V : S → Type 0) (meaning : S → Meaning) (rule : Meaning → Outcome A) (before after : S) (answer : A) : Type 0 where
+  pub valid : V after
+  pub answers : answer ≡ rule (meaning before) .answer
+  pub leaves : meaning after ≡ rule (meaning before) .leaves

@@ -1,0 +1,44 @@
+-- Any list of calls on a new scheme: what the plain meaning answers, and what it is after them. Assumes nothing.
+use mathlib.Core.Path.{_≡_}
+use mathlib.Core.Bool.{Bool, true, false}
+use mathlib.Core.List.{List, [], _∷_}
+use Rattle.scheme.specs.declared.script.Call.{Call}
+use Rattle.scheme.specs.declared.script.Call.the-variants.{Enter, Leave, Begin, Poll}
+use Rattle.scheme.specs.declared.script.Answer.{Answer}
+use Rattle.scheme.specs.declared.script.Answer.the-variants.{Accepted, Refused, Polled}
+use Rattle.scheme.specs.Meaning.{Meaning, Outcome, at-start, on-enter, on-leave, on-begin}
+use Rattle.scheme.specs.Polls.{on-poll}
+
+abbrev pub told : Bool → Answer
+told true = Accepted
+told false = Refused
+
+abbrev pub answer-to : Call → Meaning → Answer
+answer-to (Enter r) m = told (on-enter r m .answer)
+answer-to (Leave r) m = told (on-leave r m .answer)
+answer-to Begin m = told (on-begin m .answer)
+answer-to Poll m = Polled (on-poll m .answer)
+
+abbrev pub left-by : Call → Meaning → Meaning
+left-by (Enter r) m = on-enter r m .leaves
+left-by (Leave r) m = on-leave r m .leaves
+left-by Begin m = on-begin m .leaves
+left-by Poll m = on-poll m .leaves
+
+abbrev pub on-call : Call → Meaning → Outcome Answer
+on-call c m = record { answer = answer-to c m; leaves = left-by c m }
+
+-- the plain meaning after the calls, and its answers to them
+abbrev pub after : Meaning → List Call → Meaning
+after m [] = m
+after m (c ∷ cs) = after (left-by c m) cs
+
+abbrev pub answers : Meaning → List Call → List Answer
+answers m [] = []
+answers m (c ∷ cs) = answer-to c m ∷ answers (left-by c m) cs
+
+-- the calls on a new scheme left it as the plain meaning has it, and were answered so
+pub record Ran {S : Type 0} (V : S → Type 0) (meaning : S → Meaning) (calls : List Call) (scheme : S) (given : List Answer) : Type 0 where
+  pub valid : V scheme
+  pub means : meaning scheme ≡ after at-start calls
+  pub answered : given ≡ answers at-start calls
