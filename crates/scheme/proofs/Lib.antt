@@ -1,7 +1,9 @@
 pub mod Sets
-pub mod Pairs
 pub mod Words
 pub mod Counts
 pub mod Visits
 pub mod Phases
+pub mod Polls
+pub mod Pairs
 pub mod Scripts
+pub mod Histories

@@ -6,3 +6,5 @@ pub mod Visits
 pub mod Tallies
 pub mod Halves
 pub mod Scripts
+pub mod Histories
+pub mod Runs

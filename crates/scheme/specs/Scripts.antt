@@ -1,12 +1,11 @@
 -- Any list of calls on a new scheme: what the plain meaning answers, and what it is after them. Assumes nothing.
-use mathlib.Core.Path.{_≡_}
 use mathlib.Core.Bool.{Bool, true, false}
 use mathlib.Core.List.{List, [], _∷_}
 use Rattle.scheme.specs.declared.script.Call.{Call}
 use Rattle.scheme.specs.declared.script.Call.the-variants.{Enter, Leave, Begin, Poll}
 use Rattle.scheme.specs.declared.script.Answer.{Answer}
 use Rattle.scheme.specs.declared.script.Answer.the-variants.{Accepted, Refused, Polled}
-use Rattle.scheme.specs.Meaning.{Meaning, Outcome, at-start, on-enter, on-leave, on-begin}
+use Rattle.scheme.specs.Meaning.{Meaning, Outcome, on-enter, on-leave, on-begin}
 use Rattle.scheme.specs.Polls.{on-poll}
 
 abbrev pub told : Bool → Answer
@@ -36,9 +35,3 @@ after m (c ∷ cs) = after (left-by c m) cs
 abbrev pub answers : Meaning → List Call → List Answer
 answers m [] = []
 answers m (c ∷ cs) = answer-to c m ∷ answers (left-by c m) cs
-
--- the calls on a new scheme left it as the plain meaning has it, and were answered so
-pub record Ran {S : Type 0} (V : S → Type 0) (meaning : S → Meaning) (calls : List Call) (scheme : S) (given : List Answer) : Type 0 where
-  pub valid : V scheme
-  pub means : meaning scheme ≡ after at-start calls
-  pub answered : given ≡ answers at-start calls

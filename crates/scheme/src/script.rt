@@ -1,6 +1,7 @@
 // Calls of a scheme as values, and the run of any list of them on a new scheme.
 ghost use mathlib.Core.Path.{_≡_};
-ghost use Rattle.scheme.specs.Scripts.{on-call, told, Ran};
+ghost use Rattle.scheme.specs.Scripts.{on-call, told};
+ghost use Rattle.scheme.specs.Runs.{Ran};
 ghost use Rattle.scheme.specs.Meaning.{Follows};
 use crate::interface::Poll;
 use crate::interface::PollDebug;

@@ -5,6 +5,7 @@ use lib.ListN.{length, length-replicate, length-set}
 use Rattle.scheme.specs.declared.script.Call.the-variants.{Enter}
 use Rattle.scheme.specs.Scripts.{after, answers}
 use Rattle.scheme.proofs.Scripts.{one-more, all-made}
+use Rattle.scheme.proofs.Histories.{script-lawful}
 use Rattle.scheme.proofs.script.run.Needs as need
 
 pub loop-i-holds : need.loop-i-holds
@@ -28,4 +29,6 @@ pub returns : need.returns
 returns g c =
     let inv = c .loop-i .inv in
     let end = all-made (c .args .calls .now) (c .loop-i .answers) (c .loop-i .i) (g .S·Scheme .meaning (c .loop-i .scheme)) (omega (arith, inv .4)) (omega (arith, inv .3)) in
-    record { valid = inv .0; means = sym (end .0) ∙ inv .1; answered = sym (end .1) ∙ inv .2 }
+    let means = sym (end .0) ∙ inv .1 in
+    let answered = sym (end .1) ∙ inv .2 in
+    record { valid = inv .0; means = means; answered = answered; lawful = script-lawful _ _ _ means answered }
