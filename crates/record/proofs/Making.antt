@@ -50,8 +50,3 @@ par-sound =
           λ i. par-making (ea i) (eb i) (ec i) d;
       fault = λ a b c d f e. let of-one = judged-fault 1 (par-tests a b c) (a ∷ b ∷ c ∷ []) f e in (of-one .0, omega (arith, of-one .1));
     }
-
--- four numbers within the limits of a waypoint are its fields
-pub way-accepted : {a b c d : ℤ} {s t u v : Bool} → true ≡ s → true ≡ t → true ≡ u → true ≡ v → way-tests a b c d ≡ s ∷ t ∷ u ∷ v ∷ [] → inl (a ∷ b ∷ c ∷ d ∷ []) ≡ way-making a b c d
-way-accepted {a} {b} {c} {d} es et eu ev tests =
-    (λ i. judged 1 (es i ∷ et i ∷ eu i ∷ ev i ∷ []) (a ∷ b ∷ c ∷ d ∷ [])) ∙ ap (λ l. judged 1 l (a ∷ b ∷ c ∷ d ∷ [])) (sym tests)

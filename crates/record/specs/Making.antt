@@ -16,6 +16,10 @@ Making = ℤ → ℤ → ℤ → ℤ → List ℤ ⊎ ℕ
 abbrev pub lies : ℤ → ℤ → ℤ → Bool
 lies low high v = leZ low v && leZ v high
 
+-- the same as a fact
+abbrev pub Between : ℤ → ℤ → ℤ → Type 0
+Between low high v = (low ≤ℤ v) × (v ≤ℤ high)
+
 -- a test for each field from number i on: the first that fails is at fault, and where none fails these are the fields
 abbrev pub judged : ℕ → List Bool → List ℤ → List ℤ ⊎ ℕ
 judged i [] fields = inl fields

@@ -2,8 +2,7 @@
 use mathlib.Core.Bool.{Bool}
 use mathlib.Core.List.{List, [], _∷_}
 use lib.IntN.{ℤ}
-use lib.Signed.{_≤ℤ_}
-use Rattle.record.specs.Making.{Making, lies, judged}
+use Rattle.record.specs.Making.{Making, Between, lies, judged}
 use Rattle.record.specs.declared.par.Par.{Par}
 
 abbrev pub par-fields : Par → List ℤ
@@ -19,5 +18,4 @@ par-making value least most unread = judged 1 (par-tests value least most) (valu
 
 -- every parameter that exists
 pub record Par-within (p : Par) : Type 0 where
-  pub not-less : p .least ≤ℤ p .value
-  pub not-more : p .value ≤ℤ p .most
+  pub value : Between (p .least) (p .most) (p .value)

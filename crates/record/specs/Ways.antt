@@ -2,8 +2,7 @@
 use mathlib.Core.Bool.{Bool}
 use mathlib.Core.List.{List, [], _∷_}
 use lib.IntN.{ℤ, pos, negsuc}
-use lib.Signed.{_≤ℤ_}
-use Rattle.record.specs.Making.{Making, lies, judged}
+use Rattle.record.specs.Making.{Making, Between, lies, judged}
 use Rattle.record.specs.declared.way.Way.{Way}
 
 abbrev pub way-fields : Way → List ℤ
@@ -24,11 +23,7 @@ way-making latitude longitude height speed = judged 1 (way-tests latitude longit
 
 -- every waypoint that exists
 pub record Way-within (w : Way) : Type 0 where
-  pub not-south : negsuc 899_999_999 ≤ℤ w .latitude
-  pub not-north : w .latitude ≤ℤ pos 900_000_000
-  pub not-west : negsuc 1_799_999_999 ≤ℤ w .longitude
-  pub not-east : w .longitude ≤ℤ pos 1_800_000_000
-  pub not-low : negsuc 99_999 ≤ℤ w .height
-  pub not-high : w .height ≤ℤ pos 1_000_000
-  pub not-backward : pos 0 ≤ℤ w .speed
-  pub not-fast : w .speed ≤ℤ pos 3_000
+  pub latitude : Between (negsuc 899_999_999) (pos 900_000_000) (w .latitude)
+  pub longitude : Between (negsuc 1_799_999_999) (pos 1_800_000_000) (w .longitude)
+  pub height : Between (negsuc 99_999) (pos 1_000_000) (w .height)
+  pub speed : Between (pos 0) (pos 3_000) (w .speed)

@@ -6,7 +6,7 @@ use Prim.Native.Nat.{ℕ, zero, suc, _+_, _<_, _≤_}
 use native.Mathlib.Omega.{arith}
 use lib.Dec.{ltb}
 use Rattle.std.proofs.shelf.Tests.{cases-bool, cases-eq, lt-ltb}
-use Rattle.scheme.specs.Meaning.{updated, anybody-below, anybody}
+use Rattle.scheme.specs.Meaning.{nobody, updated, anybody-below, anybody}
 use Rattle.scheme.specs.Counts.{one, count-below, number}
 use Rattle.scheme.proofs.Sets.{updated-here, updated-elsewhere}
 
@@ -63,3 +63,7 @@ number-le f = count-le f 16
 pub anybody-number : (f : ℕ → Bool) → anybody f ≡ ltb 0 (number f)
 unfolding anybody number
 anybody-number f = anybody-counted f 16
+
+pub number-nobody : number nobody ≡ 0
+unfolding number
+number-nobody = refl

@@ -1,7 +1,6 @@
 pub mod Sets
 pub mod Words
 pub mod Counts
-pub mod Visits
 pub mod Phases
 pub mod Polls
 pub mod Pairs

@@ -1,138 +1,161 @@
--- The calls of the scheme of phases, by its visits. Assumes nothing.
-use mathlib.Core.Path.{_≡_, refl, sym, ap, _∙_}
-use mathlib.Core.Bool.{Bool, true, false, not, _&&_, cond}
+-- Visits under phases, and their counts, as readers come and go. Assumes nothing.
+use mathlib.Core.Path.{_≡_, refl, sym, ap, _∙_, fun-ext}
+use mathlib.Core.Bool.{Bool, true, false, not, _&&_}
 use mathlib.Core.List.{List}
 use mathlib.Core.Logic.{⊎-elim}
-use Prim.Native.Nat.{ℕ, _<_, _≤_}
+use Prim.Native.Nat.{ℕ, _+_, _<_, _≤_}
 use native.Mathlib.Omega.{arith}
-use lib.Dec.{eqb, ltb}
-use lib.ListN.{length, getD, set, replicate}
-use Rattle.std.proofs.shelf.Tests.{cases-lt, both-ways, and-parts, and-right, le-ltb, lt-ltb, cond-true, cond-false}
+use lib.Dec.{ltb}
+use lib.ListN.{length, getD, set, replicate, getD-replicate}
+use lib.Seq.{getD-set-same, getD-set-other}
+use Rattle.std.proofs.shelf.Tests.{cases-lt, cases-eq, cases-bool, both-ways, and-parts}
+use Rattle.std.proofs.shelf.Lists.{getD-past}
 use Rattle.scheme.specs.declared.visit.Visit.{Visit}
 use Rattle.scheme.specs.declared.visit.Visit.the-variants.{Outside, Under}
-use Rattle.scheme.specs.declared.interface.Poll.{Poll}
-use Rattle.scheme.specs.declared.interface.Poll.the-variants.{NoWait, NotYet, Over}
-use Rattle.scheme.specs.Meaning.{Meaning, Sound, Outcome, Follows, updated, anybody, at-start, entered, left, begun, closed, may-enter, on-enter, on-leave, on-begin}
-use Rattle.scheme.specs.Polls.{on-poll}
-use Rattle.scheme.specs.Counts.{number}
-use Rattle.scheme.specs.Visits.{is-under, same, visiting, under, phased}
-use Rattle.scheme.proofs.Sets.{same-meaning}
-use Rattle.scheme.proofs.Counts.{anybody-number}
-use Rattle.scheme.proofs.Visits.{visiting-at, nobody-past, under-visiting, visiting-set, under-set, nobody-under, number-none, other-phase, all-under, none-visiting}
+use Rattle.scheme.specs.Meaning.{Sound, nobody, updated, anybody}
+use Rattle.scheme.specs.Counts.{one, number}
+use Rattle.scheme.specs.Visits.{is-inside, same, is-under, visiting, under, phased}
+use Rattle.scheme.proofs.Sets.{none-in, updated-here, updated-elsewhere}
+use Rattle.scheme.proofs.Counts.{number-updated, number-le, number-nobody, anybody-number}
 
--- the answer to a call and the meaning after it go by the rule of the call
-pub record Told {A : Type 0} (rule : Meaning → Outcome A) (before after : Meaning) (answer : A) : Type 0 where
-  pub answers : answer ≡ rule before .answer
-  pub leaves : after ≡ rule before .leaves
+-- ---- the visit of one reader
 
-pub follows : {S A : Type 0} {V : S → Type 0} {meaning : S → Meaning} {rule : Meaning → Outcome A} {s s′ : S} {x : A} → V s′ → Told rule (meaning s) (meaning s′) x → Follows V meaning rule s s′ x
-follows v told = record { valid = v; answers = told .answers; leaves = told .leaves }
+pub visiting-at : (visits : List Visit) (r : ℕ) (x : Visit) → getD visits r Outside ≡ x → visiting visits r ≡ is-inside x
+unfolding visiting
+visiting-at visits r x e = ap is-inside e
 
-pub nobody-yet : phased (replicate 16 Outside) false false ≡ at-start
-unfolding phased
-nobody-yet = same-meaning _ _ none-visiting refl (λ r. refl)
+pub under-at : (visits : List Visit) (r : ℕ) (x : Visit) (p : Bool) → getD visits r Outside ≡ x → under visits p r ≡ is-under p x
+unfolding under
+under-at visits r x p e = ap (is-under p) e
 
-module _ (visits : List Visit) (p w : Bool) (l : length visits ≡ 16) where
-  pub visits-sound : Sound (phased visits p w)
-  unfolding phased
-  visits-sound =
-      record {
-        known = λ r h. ⊎-elim (λ k. k) (λ k. absurd (both-ways (visiting visits r) (nobody-past visits r (omega arith)) h)) (cases-lt r 16);
-        within = λ r h. under-visiting visits (not p) r (and-parts w (under visits (not p) r) h .1);
-        quiet = λ r e. ap (λ b. b && under visits (not p) r) e;
-      }
+pub nobody-past : (visits : List Visit) (r : ℕ) → length visits ≤ r → visiting visits r ≡ false
+nobody-past visits r h = visiting-at visits r Outside (getD-past visits r Outside h)
 
-  -- ---- enter and leave, refused
+under-inside : (p : Bool) (x : Visit) → is-under p x ≡ true → is-inside x ≡ true
+under-inside p Outside e = e
+under-inside p (Under q) e = refl
 
-  pub high-enters : (r : ℕ) → 16 ≤ r → Told (on-enter r) (phased visits p w) (phased visits p w) false
-  high-enters r h =
-      let e : may-enter r (phased visits p w) ≡ false = ap (λ b. b && not (phased visits p w .inside r)) (le-ltb r 16 h) in
-      record { answers = sym e; leaves = sym (cond-false (may-enter r (phased visits p w)) _ _ e) }
+pub under-visiting : (visits : List Visit) (p : Bool) (r : ℕ) → under visits p r ≡ true → visiting visits r ≡ true
+unfolding visiting under
+under-visiting visits p r = under-inside p (getD visits r Outside)
 
-  pub inside-enters : (r : ℕ) (q : Bool) → r < 16 → getD visits r Outside ≡ Under q → Told (on-enter r) (phased visits p w) (phased visits p w) false
-  unfolding phased
-  inside-enters r q h at =
-      let e : may-enter r (phased visits p w) ≡ false = ap (λ b. b && not (visiting visits r)) (lt-ltb r 16 h) ∙ ap not (visiting-at visits r (Under q) at) in
-      record { answers = sym e; leaves = sym (cond-false (may-enter r (phased visits p w)) _ _ e) }
+pub under-known : (visits : List Visit) (p : Bool) → length visits ≡ 16 → (r : ℕ) → under visits p r ≡ true → r < 16
+under-known visits p l r t =
+    ⊎-elim (λ k. k) (λ k. absurd (both-ways (visiting visits r) (nobody-past visits r (omega arith)) (under-visiting visits p r t))) (cases-lt r 16)
 
-  stays-out : (r : ℕ) → visiting visits r ≡ false → Told (on-leave r) (phased visits p w) (phased visits p w) false
-  unfolding phased
-  stays-out r e = record { answers = sym e; leaves = sym (cond-false (visiting visits r) _ _ e) }
+-- ---- one visit written
 
-  pub high-leaves : (r : ℕ) → 16 ≤ r → Told (on-leave r) (phased visits p w) (phased visits p w) false
-  high-leaves r h = stays-out r (nobody-past visits r (omega arith))
+-- a test of a visit, after a write at one reader
+tested-set : (q : Visit → Bool) (visits : List Visit) (r : ℕ) (x : Visit) → r < length visits → (k : ℕ) → q (getD (set visits r x) k Outside) ≡ updated (λ j. q (getD visits j Outside)) r (q x) k
+tested-set q visits r x h k =
+    let f = λ (j : ℕ). q (getD visits j Outside) in
+    ⊎-elim
+    (λ e. ap (λ j. q (getD (set visits r x) j Outside)) e ∙ ap q (getD-set-same visits r x Outside h) ∙ sym (updated-here f r (q x)) ∙ ap (updated f r (q x)) (sym e))
+    (λ ne. ap q (getD-set-other visits r k x Outside ne) ∙ sym (updated-elsewhere f r k (q x) ne)) (cases-eq k r)
 
-  pub outside-leaves : (r : ℕ) → getD visits r Outside ≡ Outside → Told (on-leave r) (phased visits p w) (phased visits p w) false
-  outside-leaves r at = stays-out r (visiting-at visits r Outside at)
+pub visiting-set : (visits : List Visit) (r : ℕ) (x : Visit) → r < length visits → visiting (set visits r x) ≡ updated (visiting visits) r (is-inside x)
+unfolding visiting
+visiting-set visits r x h = fun-ext (tested-set is-inside visits r x h)
 
-  -- ---- enter and leave, accepted
+pub under-set : (visits : List Visit) (r : ℕ) (x : Visit) (p : Bool) → r < length visits → under (set visits r x) p ≡ updated (under visits p) r (is-under p x)
+unfolding under
+under-set visits r x p h = fun-ext (tested-set (is-under p) visits r x h)
 
-  awaited-without : (f g : ℕ → Bool) (r : ℕ) → g ≡ updated f r false → (x : ℕ) → (w && g x) ≡ updated (λ k. w && f k) r false x
-  awaited-without f g r e x = ap (λ h. w && h x) e ∙ cases (eqb x r) w (f x)
-    where
-      cases : (b c d : Bool) → (c && cond b false d) ≡ cond b false (c && d)
-      cases true true d = refl
-      cases true false d = refl
-      cases false c d = refl
+-- ---- the counts
 
-  other-under : (q : Bool) → is-under (not q) (Under q) ≡ false
-  other-under true = refl
-  other-under false = refl
+same-under : (p q : Bool) → is-under q (Under p) ≡ same p q
+same-under true true = refl
+same-under true false = refl
+same-under false true = refl
+same-under false false = refl
 
-  pub enters : (r : ℕ) → r < 16 → getD visits r Outside ≡ Outside → Told (on-enter r) (phased visits p w) (phased (set visits r (Under p)) p w) true
-  unfolding phased
-  enters r h at =
-      let e : may-enter r (phased visits p w) ≡ true = ap (λ b. b && not (visiting visits r)) (lt-ltb r 16 h) ∙ ap not (visiting-at visits r Outside at) in
-      let inside : visiting (set visits r (Under p)) ≡ updated (visiting visits) r true = visiting-set visits r (Under p) (omega arith) in
-      let old : under (set visits r (Under p)) (not p) ≡ updated (under visits (not p)) r false = under-set visits r (Under p) (not p) (omega arith) ∙ ap (updated (under visits (not p)) r) (other-under p) in
-      record {
-        answers = sym e;
-        leaves = same-meaning _ (entered (phased visits p w) r) (λ x. ap (λ f. f x) inside) refl (awaited-without (under visits (not p)) _ r old) ∙ sym (cond-true (may-enter r (phased visits p w)) _ _ e);
-      }
+same-self : (p : Bool) → same p p ≡ true
+same-self true = refl
+same-self false = refl
 
-  pub leaves : (r : ℕ) (q : Bool) → r < 16 → getD visits r Outside ≡ Under q → Told (on-leave r) (phased visits p w) (phased (set visits r Outside) p w) true
-  unfolding phased
-  leaves r q h at =
-      let e : visiting visits r ≡ true = visiting-at visits r (Under q) at in
-      let inside : visiting (set visits r Outside) ≡ updated (visiting visits) r false = visiting-set visits r Outside (omega arith) in
-      let old : under (set visits r Outside) (not p) ≡ updated (under visits (not p)) r false = under-set visits r Outside (not p) (omega arith) in
-      record {
-        answers = sym e;
-        leaves = same-meaning _ (left (phased visits p w) r) (λ x. ap (λ f. f x) inside) refl (awaited-without (under visits (not p)) _ r old) ∙ sym (cond-true (visiting visits r) _ _ e);
-      }
+-- who is outside is under no phase
+out-under : (visits : List Visit) (r : ℕ) (p : Bool) → visiting visits r ≡ false → under visits p r ≡ false
+out-under visits r p out = ⊎-elim (λ t. absurd (both-ways (visiting visits r) out (under-visiting visits p r t))) (λ t. t) (cases-bool (under visits p r))
 
-  -- ---- begin
+module _ (visits : List Visit) (r : ℕ) (l : length visits ≡ 16) (h : r < 16) where
+  -- the visits after an enter under p, and their count under q
+  pub entered-inside : (p : Bool) → visiting (set visits r (Under p)) ≡ updated (visiting visits) r true
+  entered-inside p = visiting-set visits r (Under p) (omega arith)
 
-  pub still-waits : w ≡ true → Told on-begin (phased visits p w) (phased visits p w) false
-  unfolding phased
-  still-waits e = record { answers = sym (ap not e); leaves = sym (cond-true w _ _ e) }
+  pub entered-under : (p q : Bool) → under (set visits r (Under p)) q ≡ updated (under visits q) r (same p q)
+  entered-under p q = under-set visits r (Under p) q (omega arith) ∙ ap (updated (under visits q) r) (same-under p q)
 
-  pub begins : w ≡ false → number (under visits (not p)) ≡ 0 → Told on-begin (phased visits p w) (phased visits (not p) true) true
-  unfolding phased
-  begins e none =
-      record {
-        answers = sym (ap not e);
-        leaves = same-meaning _ (begun (phased visits p w)) (λ x. refl) refl (all-under visits p l none) ∙ sym (cond-false w _ _ e);
-      }
+  pub one-more : (p q : Bool) → visiting visits r ≡ false → number (under (set visits r (Under p)) q) ≡ number (under visits q) + one (same p q)
+  one-more p q out =
+      let before : one (under visits q r) ≡ 0 = ap one (out-under visits r q out) in
+      ap number (entered-under p q) ∙ omega (arith, number-updated (under visits q) r (same p q) h)
 
-  -- ---- poll
+  pub room-left : (p : Bool) → visiting visits r ≡ false → number (under visits p) < 16
+  room-left p out =
+      let self : one (same p p) ≡ 1 = ap one (same-self p) in
+      omega (arith, one-more p p out, number-le (under (set visits r (Under p)) p))
 
-  pub no-wait : w ≡ false → Told on-poll (phased visits p w) (phased visits p w) NoWait
-  unfolding phased
-  no-wait e = record { answers = sym (cond-false w _ _ e); leaves = sym (cond-false w _ _ e) }
+  -- the visits after a leave, and their count under q
+  pub left-inside : visiting (set visits r Outside) ≡ updated (visiting visits) r false
+  left-inside = visiting-set visits r Outside (omega arith)
 
-  anybody-old : w ≡ true → anybody (phased visits p w .awaited) ≡ ltb 0 (number (under visits (not p)))
-  unfolding phased
-  anybody-old e = ap (λ b. anybody (λ r. b && under visits (not p) r)) e ∙ anybody-number (under visits (not p))
+  pub left-under : (q : Bool) → under (set visits r Outside) q ≡ updated (under visits q) r false
+  left-under q = under-set visits r Outside q (omega arith)
 
-  pub not-yet : w ≡ true → 0 < number (under visits (not p)) → Told on-poll (phased visits p w) (phased visits p w) NotYet
-  unfolding phased
-  not-yet e some =
-      let awaits : anybody (phased visits p w .awaited) ≡ true = anybody-old e ∙ lt-ltb 0 _ some in
-      record { answers = sym (cond-true w _ _ e ∙ cond-true (anybody (phased visits p w .awaited)) _ _ awaits); leaves = sym (cond-true w _ _ e ∙ cond-true (anybody (phased visits p w .awaited)) _ _ awaits) }
+  pub one-less : (p q : Bool) → getD visits r Outside ≡ Under p → number (under (set visits r Outside) q) + one (same p q) ≡ number (under visits q)
+  one-less p q e =
+      let before : one (under visits q r) ≡ one (same p q) = ap one (under-at visits r (Under p) q e ∙ same-under p q) in
+      let after : number (under (set visits r Outside) q) ≡ number (updated (under visits q) r false) = ap number (left-under q) in
+      omega (arith, number-updated (under visits q) r false h)
 
-  pub over : w ≡ true → number (under visits (not p)) ≡ 0 → Told on-poll (phased visits p w) (phased visits p false) Over
-  unfolding phased
-  over e none =
-      let gone : anybody (phased visits p w .awaited) ≡ false = anybody-old e ∙ le-ltb 0 _ (omega arith) in
-      record { answers = sym (cond-true w _ _ e ∙ cond-false (anybody (phased visits p w .awaited)) _ _ gone); leaves = sym (cond-true w _ _ e ∙ cond-false (anybody (phased visits p w .awaited)) _ _ gone) }
+  pub some-counted : (p : Bool) → getD visits r Outside ≡ Under p → 0 < number (under visits p)
+  some-counted p e =
+      let self : one (same p p) ≡ 1 = ap one (same-self p) in
+      omega (arith, one-less p p e)
+
+-- ---- where nobody is inside under one phase, all are under the other
+
+one-phase : (p : Bool) (x : Visit) → is-under p x ≡ false → is-under (not p) x ≡ is-inside x
+one-phase p Outside e = refl
+one-phase true (Under true) e = sym e
+one-phase true (Under false) e = refl
+one-phase false (Under true) e = refl
+one-phase false (Under false) e = sym e
+
+module _ (visits : List Visit) (p : Bool) (l : length visits ≡ 16) {n : ℕ} (counted : n ≡ number (under visits p)) where
+  pub count-tells : ltb 0 n ≡ anybody (under visits p)
+  count-tells = ap (ltb 0) counted ∙ sym (anybody-number (under visits p))
+
+  out-of-phase : ltb 0 n ≡ false → (r : ℕ) → under visits p r ≡ false
+  out-of-phase e = none-in (under visits p) (sym count-tells ∙ e) (under-known visits p l)
+
+  pub nobody-under : ltb 0 n ≡ false → under visits p ≡ nobody
+  nobody-under e = fun-ext (out-of-phase e)
+
+  pub others-under : ltb 0 n ≡ false → under visits (not p) ≡ visiting visits
+  unfolding visiting under
+  others-under e = fun-ext (λ r. one-phase p (getD visits r Outside) (out-of-phase e r))
+
+-- ---- nobody has entered yet
+
+outside : (r : ℕ) → getD (replicate 16 Outside) r Outside ≡ Outside
+outside r = ⊎-elim (λ h. getD-replicate 16 r Outside Outside h) (λ h. getD-past (replicate 16 Outside) r Outside h) (cases-lt r 16)
+
+pub none-visiting : visiting (replicate 16 Outside) ≡ nobody
+none-visiting = fun-ext (λ r. visiting-at (replicate 16 Outside) r Outside (outside r))
+
+pub none-under : (p : Bool) → under (replicate 16 Outside) p ≡ nobody
+none-under p = fun-ext (λ r. under-at (replicate 16 Outside) r Outside p (outside r))
+
+pub none-counted : (p : Bool) → number (under (replicate 16 Outside) p) ≡ 0
+none-counted p = ap number (none-under p) ∙ number-nobody
+
+-- ---- the meaning of visits
+
+pub phased-sound : (visits : List Visit) (p w : Bool) → length visits ≡ 16 → Sound (phased visits p w)
+phased-sound visits p w l =
+    record {
+      known = λ r t. ⊎-elim (λ k. k) (λ k. absurd (both-ways (visiting visits r) (nobody-past visits r (omega arith)) t)) (cases-lt r 16);
+      within = λ r t. under-visiting visits (not p) r (and-parts w (under visits (not p) r) t .1);
+      quiet = λ r e. ap (λ b. b && under visits (not p) r) e;
+    }

@@ -27,5 +27,5 @@ unfoldable pub under : List Visit → Bool → ℕ → Bool
 under visits p r = is-under p (getD visits r Outside)
 
 -- what the visits mean at the current phase p: an open wait awaits those under the other phase
-unfoldable pub phased : List Visit → Bool → Bool → Meaning
+abbrev pub phased : List Visit → Bool → Bool → Meaning
 phased visits p w = record { inside = visiting visits; waits = w; awaited = λ r. w && under visits (not p) r }

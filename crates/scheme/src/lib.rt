@@ -7,6 +7,7 @@ mod reader_set;
 mod script;
 mod tally;
 mod visit;
+mod visits;
 
 pub use bits::Bits;
 pub use bits::BitsScheme;
@@ -18,7 +19,7 @@ pub use interface::Scheme;
 pub use pair::Pair;
 pub use pair::PairScheme;
 pub use phase::Phase;
-pub use phase::calls::PhaseScheme;
+pub use phase::PhaseScheme;
 pub use script::Answer;
 pub use script::AnswerDebug;
 pub use script::AnswerPartialEq;

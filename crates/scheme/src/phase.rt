@@ -1,28 +1,70 @@
 // An entering reader takes the current phase, 0 (false) or 1 (true), and each phase has a count of the readers inside that took it.
 // A wait turns the phase, so that the old count only falls, and is over when that count is 0.
 ghost use mathlib.Core.Path.{_≡_};
-ghost use mathlib.Core.Bool.{Bool, false, not};
-ghost use lib.ListN.{length};
-ghost use Rattle.scheme.specs.Counts.{number};
-ghost use Rattle.scheme.specs.Visits.{under};
-ghost use Rattle.scheme.specs.Tallies.{tally};
+ghost use mathlib.Core.Bool.{false};
+ghost use Prim.Native.Nat.{ℕ};
+ghost use Rattle.scheme.specs.Visits.{phased, under, visiting};
+use crate::interface::Poll;
 use crate::interface::READERS;
-use crate::tally::Tally;
-use crate::visit::Visit;
-
-pub mod calls;
-
-const VISITS: usize = READERS as usize;
+use crate::interface::Scheme;
+use crate::visits::Visits;
 
 #[derive(Drop)]
 pub struct Phase {
-    visits: [Visit; VISITS],
-    counts: Tally,
+    visits: Visits,
     phase: bool,
     waits: bool,
-    ghost sized: { length visits ≡ 16 },
-    // Each count is the number of readers inside that entered under that phase.
-    ghost counted: { (p : Bool) → tally counts p ≡ number (under visits p) },
-    // With no wait open nobody inside entered under the old phase.
-    ghost settled: { waits ≡ false → number (under visits (not phase)) ≡ 0 },
+    // With no wait open all readers inside entered under the current phase.
+    ghost settled: { (r : ℕ) → waits ≡ false → under (visits .of) phase r ≡ visiting (visits .of) r },
+}
+
+pub impl Scheme for Phase as PhaseScheme {
+    ghost meaning = { λ s. phased (s .visits .of) (s .phase) (s .waits) };
+
+    // Every value will do, since the type says what holds of it.
+    ghost valid = { λ _. Unit {0} };
+
+    fn new() -> Phase {
+        Phase {
+            visits: Visits::none(),
+            phase: false,
+            waits: false,
+        }
+    }
+
+    fn enter(&mut self, reader: u32) -> bool {
+        if reader >= READERS || self.visits.contains(reader) {
+            return false;
+        }
+        self.visits.enter(reader, self.phase);
+        true
+    }
+
+    fn leave(&mut self, reader: u32) -> bool {
+        if !self.visits.contains(reader) {
+            return false;
+        }
+        self.visits.leave(reader);
+        true
+    }
+
+    fn begin(&mut self) -> bool {
+        if self.waits {
+            return false;
+        }
+        self.phase = !self.phase;
+        self.waits = true;
+        true
+    }
+
+    fn poll(&mut self) -> Poll {
+        if !self.waits {
+            return Poll::NoWait;
+        }
+        if self.visits.any_under(!self.phase) {
+            return Poll::NotYet;
+        }
+        self.waits = false;
+        Poll::Over
+    }
 }

@@ -1,0 +1,82 @@
+// The visits of all readers, and one count for each phase.
+ghost use mathlib.Core.Path.{_≡_};
+ghost use mathlib.Core.Bool.{Bool, false, not, true};
+ghost use Prim.Native.Nat.{_<_};
+ghost use lib.ListN.{length};
+ghost use Rattle.scheme.specs.Meaning.{anybody, nobody, updated};
+ghost use Rattle.scheme.specs.Counts.{number};
+ghost use Rattle.scheme.specs.Visits.{same, under, visiting};
+ghost use Rattle.scheme.specs.Tallies.{tally};
+use crate::interface::READERS;
+use crate::tally::Tally;
+use crate::visit::Visit;
+
+const PLACES: usize = READERS as usize;
+
+#[derive(Drop)]
+pub struct Visits {
+    of: [Visit; PLACES],
+    counts: Tally,
+    ghost sized: { length of ≡ 16 },
+    // Each count is the number of readers inside that entered under that phase.
+    ghost counted: { (p : Bool) → tally counts p ≡ number (under of p) },
+}
+
+impl Visits {
+    pub fn none() -> Visits
+        ensures inside { λ v. ⌜ visiting (v .of) ≡ nobody ⌝ }
+        ensures phases { λ v. ⌜ ((p : Bool) → under (v .of) p ≡ nobody) ⌝ }
+    {
+        Visits {
+            of: [Visit::Outside; PLACES],
+            counts: Tally::new(),
+        }
+    }
+
+    // Whether the reader is inside.
+    pub fn contains(&self, reader: u32) -> bool
+        ensures answer { λ b. ⌜ b ≡ visiting (now (self .entry) .of) reader ⌝ }
+        ensures known { λ b. ⌜ (b ≡ true → reader < 16) ⌝ }
+    {
+        if reader >= READERS {
+            return false;
+        }
+        let visit = self.of[reader as usize];
+        match visit {
+            Visit::Outside => false,
+            Visit::Under(_) => true,
+        }
+    }
+
+    pub fn enter(&mut self, reader: u32, phase: bool)
+        requires low { ⌜ reader < 16 ⌝ }
+        requires outside { ⌜ visiting (now self .of) reader ≡ false ⌝ }
+        ensures inside { λ _. ⌜ visiting (now (self .exit) .of) ≡ updated (visiting (now (self .entry) .of)) reader true ⌝ }
+        ensures phases { λ _. ⌜ ((p : Bool) → under (now (self .exit) .of) p ≡ updated (under (now (self .entry) .of) p) reader (same phase p)) ⌝ }
+    {
+        self.counts = self.counts.one_more(phase);
+        self.of[reader as usize] = Visit::Under(phase);
+    }
+
+    pub fn leave(&mut self, reader: u32)
+        requires low { ⌜ reader < 16 ⌝ }
+        requires inside { ⌜ visiting (now self .of) reader ≡ true ⌝ }
+        ensures inside { λ _. ⌜ visiting (now (self .exit) .of) ≡ updated (visiting (now (self .entry) .of)) reader false ⌝ }
+        ensures phases { λ _. ⌜ ((p : Bool) → under (now (self .exit) .of) p ≡ updated (under (now (self .entry) .of) p) reader false) ⌝ }
+    {
+        let visit = self.of[reader as usize];
+        if let Visit::Under(phase) = visit {
+            self.counts = self.counts.one_less(phase);
+            self.of[reader as usize] = Visit::Outside;
+        }
+    }
+
+    // Whether a reader is inside that entered under the phase; if not, all entered under the other.
+    pub fn any_under(&self, phase: bool) -> bool
+        ensures answer { λ b. ⌜ b ≡ anybody (under (now (self .entry) .of) phase) ⌝ }
+        ensures nobody { λ b. ⌜ (b ≡ false → under (now (self .entry) .of) phase ≡ nobody) ⌝ }
+        ensures others { λ b. ⌜ (b ≡ false → under (now (self .entry) .of) (not phase) ≡ visiting (now (self .entry) .of)) ⌝ }
+    {
+        self.counts.of(phase) > 0
+    }
+}
