@@ -16,6 +16,6 @@ par-tests value least most = lies least most value ∷ []
 abbrev pub par-making : Making
 par-making value least most unread = judged 1 (par-tests value least most) (value ∷ least ∷ most ∷ [])
 
--- every parameter that exists
+-- what holds of every parameter that exists
 pub record Par-within (p : Par) : Type 0 where
   pub value : Between (p .least) (p .most) (p .value)

@@ -9,6 +9,7 @@ pub enum Kind {
 }
 
 impl Kind {
+    // The kind as a schedule names it.
     pub fn word(self) -> &'static str
         ensures { λ r. ⌜ now r ≡ kind-word self ⌝ }
     {

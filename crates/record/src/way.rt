@@ -6,7 +6,7 @@ use crate::interface::Record;
 use crate::kind::Kind;
 use crate::range::lies_within;
 
-// Latitude and longitude are in units of 0.0000001 degree, height in cm, speed in cm/s.
+// The greatest latitude and longitude, either way, in units of 0.0000001 degree; the least and greatest height in cm; the greatest speed in cm/s.
 const LATITUDE: i32 = 900_000_000;
 
 const LONGITUDE: i32 = 1_800_000_000;

@@ -1,23 +1,23 @@
 -- Every history of calls on a new scheme is lawful. Assumes nothing.
 use mathlib.Core.Path.{_≡_, refl, sym, ap, subst, _∙_}
-use mathlib.Core.Bool.{Bool, true, false, not, _&&_, cond}
+use mathlib.Core.Bool.{Bool, true, false, not, cond}
 use mathlib.Core.List.{List, [], _∷_, _++_}
-use mathlib.Core.Logic.{_⊎_, inl, inr, _↔_, ⊎-elim}
+use mathlib.Core.Logic.{_⊎_, inl, inr, _↔_, Iff·trans, ⊎-elim}
 use Prim.Native.Nat.{ℕ, zero, suc, _<_}
 use native.Mathlib.Omega.{arith}
 use borrow.Author.Needs.{needs}
-use lib.Dec.{eqb, ltb}
+use lib.Dec.{ltb}
 use Rattle.std.proofs.shelf.Tests.{both-ways, cases-bool, cases-eq, not-true, and-parts, and-from, or-cases, ltb-true, lt-ltb, not-from-false}
 use Rattle.scheme.specs.declared.interface.Poll.the-variants.{NoWait, NotYet, Over}
 use Rattle.scheme.specs.declared.script.Call.{Call}
 use Rattle.scheme.specs.declared.script.Call.the-variants.{Enter, Leave, Begin, Poll}
 use Rattle.scheme.specs.declared.script.Answer.{Answer}
 use Rattle.scheme.specs.declared.script.Answer.the-variants.{Accepted, Refused, Polled}
-use Rattle.scheme.specs.Meaning.{Meaning, Sound, nobody, updated, anybody-below, anybody, at-start, entered, left, begun, closed, may-enter, on-enter, on-leave, on-begin}
+use Rattle.scheme.specs.Meaning.{Meaning, Sound, updated, anybody-below, anybody, at-start, entered, left, begun, closed, may-enter, on-enter, on-leave, on-begin}
 use Rattle.scheme.specs.Polls.{on-poll}
 use Rattle.scheme.specs.Scripts.{told, answer-to, left-by, after, answers}
-use Rattle.scheme.specs.Histories.{Some, Since, Moment, moment, History, recorded, Enters, Leaves, Begins, Finds-over, Visiting, Waiting, Open, Right, Lawful}
-use Rattle.scheme.proofs.Sets.{none-in, updated-here, updated-elsewhere}
+use Rattle.scheme.specs.Histories.{Any, Since, Moment, moment, History, recorded, Enters, Leaves, Begins, Finds-over, Visiting, Waiting, Open, All-gone, Accepted-if, Polled-right, Right, Lawful}
+use Rattle.scheme.proofs.Sets.{apart, none-in, updated-here, updated-elsewhere}
 use Rattle.scheme.proofs.Polls.{inside-stays, known-awaited}
 
 -- the plain meaning after a history that calls on it can have
@@ -50,9 +50,6 @@ sound Runs.new = record { known = λ r t. absurd (both-ways false refl t); withi
 sound (Runs.called run c) = call-sound c _ (sound run)
 
 -- ---- what a call turns on or off
-
-apart : _≡_ {A = ℕ} 0 1 → ⊥
-apart e = absurd (omega arith)
 
 -- a test that was b and is b′ now: P turns it on, Q turns it off
 data Change (P Q : Type 0) (b b′ : Bool) : Type 0 where
@@ -182,28 +179,28 @@ awaited-change Poll m r s e not-over = Await.kept (λ h. apart (cc)) (poll-await
 -- the wait that began after older is open, and newer is what came since
 record Awaiting (newer older : History) (m : Meaning) : Type 0 where
   waiting : m .waits ≡ true
-  awaited-or-left : (r : ℕ) → Visiting r older → (m .awaited r ≡ true) ⊎ Some (Leaves r) newer
-  awaited-only : (r : ℕ) → m .awaited r ≡ true → Visiting r older × ¬ (Some (Leaves r) newer)
+  awaited-or-left : (r : ℕ) → Visiting r older → (m .awaited r ≡ true) ⊎ Any (Leaves r) newer
+  awaited-only : (r : ℕ) → m .awaited r ≡ true → Visiting r older × ¬ (Any (Leaves r) newer)
 
 still-on : {P Q : Type 0} {b b′ : Bool} → Change P Q b b′ → ¬ Q → b ≡ true → b′ ≡ true
 still-on (Change.on p e) nq t = e
 still-on (Change.off np q e) nq t = absurd (nq q)
 still-on (Change.same np nq e) _ t = e ∙ t
 
-some-older : {M : Type 0} (P : M → Type 0) {x : M} {h : List M} → ¬ (P x) → Some P (x ∷ h) → Some P h
-some-older P n (Some.here p) = absurd (n p)
-some-older P n (Some.there s) = s
+some-older : {M : Type 0} (P : M → Type 0) {x : M} {h : List M} → ¬ (P x) → Any P (x ∷ h) → Any P h
+some-older P n (Any.here p) = absurd (n p)
+some-older P n (Any.there s) = s
 
-none-some : {M : Type 0} {P : M → Type 0} → Some P [] → ⊥
+none-some : {M : Type 0} {P : M → Type 0} → Any P [] → ⊥
 none-some s = elim s [ ]
 
 module _ {r : ℕ} {x : Moment} {newer : History} {b b′ : Bool} where
-  more-left : Await (Leaves r x) b b′ → (b ≡ true) ⊎ Some (Leaves r) newer → (b′ ≡ true) ⊎ Some (Leaves r) (x ∷ newer)
-  more-left (Await.gone p e) so = inr (Some.here p)
+  more-left : Await (Leaves r x) b b′ → (b ≡ true) ⊎ Any (Leaves r) newer → (b′ ≡ true) ⊎ Any (Leaves r) (x ∷ newer)
+  more-left (Await.gone p e) so = inr (Any.here p)
   more-left (Await.kept n e) (inl t) = inl (e ∙ t)
-  more-left (Await.kept n e) (inr l) = inr (Some.there l)
+  more-left (Await.kept n e) (inr l) = inr (Any.there l)
 
-  none-left : {older : History} → Await (Leaves r x) b b′ → (b ≡ true → Visiting r older × ¬ (Some (Leaves r) newer)) → b′ ≡ true → Visiting r older × ¬ (Some (Leaves r) (x ∷ newer))
+  none-left : {older : History} → Await (Leaves r x) b b′ → (b ≡ true → Visiting r older × ¬ (Any (Leaves r) newer)) → b′ ≡ true → Visiting r older × ¬ (Any (Leaves r) (x ∷ newer))
   none-left (Await.gone p e) so t = absurd (both-ways b′ e t)
   none-left (Await.kept n e) so t = let before = so (sym e ∙ t) in (before .0, λ l. before .1 (some-older (Leaves r) n l))
 
@@ -231,7 +228,7 @@ begun-now (Leave q) run e = absurd (apart (cc))
 begun-now Begin {m = m} run e = just-begun (m .waits) m (visits run) (cc)
 begun-now Poll run e = absurd (apart (cc))
 
-awaiting : {h : History} {m : Meaning} → Runs h m → (newer older : History) → h ≡ newer ++ moment Begin Accepted ∷ older → ¬ (Some Finds-over newer) → Awaiting newer older m
+awaiting : {h : History} {m : Meaning} → Runs h m → (newer older : History) → h ≡ newer ++ moment Begin Accepted ∷ older → ¬ (Any Finds-over newer) → Awaiting newer older m
 awaiting Runs.new [] older e not-over = absurd (apart (cc))
 awaiting Runs.new (y ∷ newer) older e not-over = absurd (apart (cc))
 awaiting (Runs.called {h} {m} run c) [] older e not-over =
@@ -242,13 +239,23 @@ awaiting (Runs.called {h} {m} run c) (y ∷ newer) older e not-over =
     let newest : moment c (answer-to c m) ≡ y = cc in
     let before : h ≡ newer ++ moment Begin Accepted ∷ older = cc in
     subst (λ (x : Moment). Awaiting (x ∷ newer) older (left-by c m)) newest
-    (awaiting-more c (sound run) (λ o. not-over (Some.here (sym newest ∙ o))) (awaiting run newer older before (λ o. not-over (Some.there o))))
+    (awaiting-more c (sound run) (λ o. not-over (Any.here (sym newest ∙ o))) (awaiting run newer older before (λ o. not-over (Any.there o))))
 
 -- ---- each answer is right
 
-accepted : (b : Bool) → (told b ≡ Accepted) ↔ (b ≡ true)
-accepted true = ((λ e. refl), (λ t. refl))
-accepted false = ((λ e. absurd (apart (cc))), (λ t. absurd (both-ways false refl t)))
+not-so : {P : Type 0} (b : Bool) → (b ≡ true) ↔ P → (b ≡ false) ↔ (¬ P)
+not-so b so = ((λ f p. both-ways b f (so .1 p)), (λ n. ⊎-elim (λ t. absurd (n (so .0 t))) (λ f. f) (cases-bool b)))
+
+told-accepted : (b : Bool) → (told b ≡ Accepted) ↔ (b ≡ true)
+told-accepted true = ((λ e. refl), (λ t. refl))
+told-accepted false = ((λ e. absurd (apart (cc))), (λ t. absurd (both-ways false refl t)))
+
+told-refused : (b : Bool) → (told b ≡ Refused) ↔ (b ≡ false)
+told-refused true = ((λ e. absurd (apart (cc))), (λ f. absurd (both-ways true f refl)))
+told-refused false = ((λ e. refl), (λ f. refl))
+
+accepted-if : {P : Type 0} (b : Bool) → (b ≡ true) ↔ P → Accepted-if P (told b)
+accepted-if b so = record { accepted = Iff·trans (told-accepted b) so; refused = Iff·trans (told-refused b) (not-so b so) }
 
 said-none : (w s : Bool) → (_≡_ {A = Answer} (Polled (cond w (cond s NotYet Over) NoWait)) (Polled NoWait)) ↔ (w ≡ false)
 said-none true true = ((λ e. absurd (apart (cc))), (λ t. absurd (both-ways true t refl)))
@@ -260,8 +267,10 @@ said-over true true t = ((λ e. absurd (apart (cc))), (λ f. absurd (both-ways t
 said-over true false t = ((λ e. refl), (λ f. refl))
 said-over false s t = absurd (both-ways false refl t)
 
-not-so : {P : Type 0} (b : Bool) → (b ≡ true) ↔ P → (b ≡ false) ↔ (¬ P)
-not-so b so = ((λ f p. both-ways b f (so .1 p)), (λ n. ⊎-elim (λ t. absurd (n (so .0 t))) (λ f. f) (cases-bool b)))
+said-not-yet : (w s : Bool) → w ≡ true → (_≡_ {A = Answer} (Polled (cond w (cond s NotYet Over) NoWait)) (Polled NotYet)) ↔ (s ≡ true)
+said-not-yet true true t = ((λ e. refl), (λ f. refl))
+said-not-yet true false t = ((λ e. absurd (apart (cc))), (λ f. absurd (both-ways false refl f)))
+said-not-yet false s t = absurd (both-ways false refl t)
 
 -- where somebody is in a set, there is a reader who is
 found-below : (f : ℕ → Bool) (n : ℕ) → anybody-below f n ≡ true → (r : ℕ) × (f r ≡ true)
@@ -273,40 +282,49 @@ unfolding anybody
 found f t = found-below f 16 t
 
 module _ {h : History} {m : Meaning} (run : Runs h m) where
-  enter-right : (r : ℕ) → Right (Enter r) (answer-to (Enter r) m) h
-  enter-right r =
-      let out = not-so (m .inside r) (visits run r) in (
-        (λ a. let may = and-parts (ltb r 16) (not (m .inside r)) (accepted (may-enter r m) .0 a) in (ltb-true r 16 (may .0), out .0 (not-true (m .inside r) (may .1)))),
-        (λ may. accepted (may-enter r m) .1 (and-from (ltb r 16) (not (m .inside r)) (lt-ltb r 16 (may .0)) (not-from-false (m .inside r) (out .1 (may .1))))),
-      )
+  outside : (r : ℕ) → (m .inside r ≡ false) ↔ (¬ (Visiting r h))
+  outside r = not-so (m .inside r) (visits run r)
 
-  leave-right : (r : ℕ) → Right (Leave r) (answer-to (Leave r) m) h
-  leave-right r = ((λ a. visits run r .0 (accepted (m .inside r) .0 a)), (λ v. accepted (m .inside r) .1 (visits run r .1 v)))
+  may-enter-if : (r : ℕ) → (may-enter r m ≡ true) ↔ ((r < 16) × ¬ (Visiting r h))
+  may-enter-if r = (
+    (λ t. let parts = and-parts (ltb r 16) (not (m .inside r)) t in (ltb-true r 16 (parts .0), outside r .0 (not-true (m .inside r) (parts .1)))),
+    (λ may. and-from (ltb r 16) (not (m .inside r)) (lt-ltb r 16 (may .0)) (not-from-false (m .inside r) (outside r .1 (may .1)))),
+  )
 
-  begin-right : Right Begin (answer-to Begin m) h
-  begin-right =
-      let shut = not-so (m .waits) (waits run) in
-      ((λ a. shut .0 (not-true (m .waits) (accepted (not (m .waits)) .0 a))), (λ n. accepted (not (m .waits)) .1 (not-from-false (m .waits) (shut .1 n))))
+  shut : (m .waits ≡ false) ↔ (¬ (Waiting h))
+  shut = not-so (m .waits) (waits run)
 
-  over-right : (newer older : History) → Open newer older h → (answer-to Poll m ≡ Polled Over) ↔ ((r : ℕ) → Visiting r older → Some (Leaves r) newer)
-  over-right newer older wait =
-      let so = awaiting run newer older (wait .begun) (wait .not-over) in
-      let over = said-over (m .waits) (anybody (m .awaited)) (so .waiting) in
-      let s = sound run in (
-        (λ a r v. ⊎-elim (λ t. absurd (both-ways (m .awaited r) (none-in (m .awaited) (over .0 a) (known-awaited m s) r) t)) (λ l. l) (so .awaited-or-left r v)),
-        (λ all. over .1 (⊎-elim (λ t. let who = found (m .awaited) t in let only = so .awaited-only (who .0) (who .1) in absurd (only .1 (all (who .0) (only .0)))) (λ f. f) (cases-bool (anybody (m .awaited))))),
-      )
+  may-begin-if : (not (m .waits) ≡ true) ↔ (¬ (Waiting h))
+  may-begin-if = ((λ t. shut .0 (not-true (m .waits) t)), (λ n. not-from-false (m .waits) (shut .1 n)))
 
-  poll-right : Right Poll (answer-to Poll m) h
+  -- nobody is awaited exactly when all are gone that were inside at the start
+  nobody-awaited : (newer older : History) → Awaiting newer older m → (anybody (m .awaited) ≡ false) ↔ All-gone newer older
+  nobody-awaited newer older so = (
+    (λ none r v. ⊎-elim (λ t. absurd (both-ways (m .awaited r) (none-in (m .awaited) none (known-awaited m (sound run)) r) t)) (λ l. l) (so .awaited-or-left r v)),
+    (λ all. ⊎-elim (λ t. let who = found (m .awaited) t in let only = so .awaited-only (who .0) (who .1) in absurd (only .1 (all (who .0) (only .0)))) (λ f. f) (cases-bool (anybody (m .awaited)))),
+  )
+
+  somebody-awaited : (newer older : History) → Awaiting newer older m → (anybody (m .awaited) ≡ true) ↔ (¬ (All-gone newer older))
+  somebody-awaited newer older so =
+      let none = nobody-awaited newer older so in
+      ((λ t all. both-ways (anybody (m .awaited)) (none .1 all) t), (λ n. ⊎-elim (λ t. t) (λ f. absurd (n (none .0 f))) (cases-bool (anybody (m .awaited)))))
+
+  since-begun : (newer older : History) → Open newer older h → Awaiting newer older m
+  since-begun newer older wait = awaiting run newer older (wait .begun) (wait .not-over)
+
+  poll-right : Polled-right (answer-to Poll m) h
   poll-right =
-      let shut = not-so (m .waits) (waits run) in
-      let none = said-none (m .waits) (anybody (m .awaited)) in
-      (((λ a. shut .0 (none .0 a)), (λ n. none .1 (shut .1 n))), over-right)
+      let s = anybody (m .awaited) in
+      record {
+        none = Iff·trans (said-none (m .waits) s) shut;
+        over = λ newer older wait. let so = since-begun newer older wait in Iff·trans (said-over (m .waits) s (so .waiting)) (nobody-awaited newer older so);
+        not-yet = λ newer older wait. let so = since-begun newer older wait in Iff·trans (said-not-yet (m .waits) s (so .waiting)) (somebody-awaited newer older so);
+      }
 
   right : (c : Call) → Right c (answer-to c m) h
-  right (Enter r) = enter-right r
-  right (Leave r) = leave-right r
-  right Begin = begin-right
+  right (Enter r) = accepted-if (may-enter r m) (may-enter-if r)
+  right (Leave r) = accepted-if (m .inside r) (visits run r)
+  right Begin = accepted-if (not (m .waits)) may-begin-if
   right Poll = poll-right
 
 all-right : {h : History} {m : Meaning} → Runs h m → (newer older : History) (c : Call) (a : Answer) → h ≡ newer ++ moment c a ∷ older → Right c a older
@@ -326,8 +344,9 @@ lawful run =
       inside = visits run;
       waits = waits run;
       awaited = λ newer older wait r.
-          let so = awaiting run newer older (wait .begun) (wait .not-over) in
+          let so = since-begun run newer older wait in
           (so .awaited-only r, λ v. ⊎-elim (λ t. t) (λ l. absurd (v .1 l)) (so .awaited-or-left r (v .0)));
+      quiet = λ n r. sound run .quiet r (shut run .1 n);
     }
 
 -- ---- the history of a script

@@ -1,7 +1,7 @@
 -- A poll of two schemes side by side. Assumes nothing.
 use mathlib.Core.Path.{_≡_, refl, sym, ap, _∙_}
 use mathlib.Core.Bool.{Bool, true, false, cond, _||_}
-use mathlib.Core.Logic.{_⊎_, inl, inr, ⊎-elim}
+use mathlib.Core.Logic.{_⊎_, ⊎-elim}
 use Prim.Native.Nat.{ℕ, _+_, _-_, _<_, _≤_}
 use native.Mathlib.Omega.{arith}
 use lib.Dec.{ltb}
@@ -11,7 +11,7 @@ use Rattle.scheme.specs.declared.interface.Poll.the-variants.{NoWait, NotYet, 
 use Rattle.scheme.specs.Meaning.{Meaning, Sound, Follows, anybody, closed}
 use Rattle.scheme.specs.Polls.{on-poll, says-not-yet}
 use Rattle.scheme.specs.Halves.{side-by-side, joined, Joins}
-use Rattle.scheme.proofs.Sets.{none-in, nobody-in, same-meaning}
+use Rattle.scheme.proofs.Sets.{apart, none-in, nobody-in, same-meaning}
 use Rattle.scheme.proofs.Polls.{says-awaited, inside-stays, known-awaited, awaited-stay, closes}
 
 -- ---- both
@@ -130,3 +130,11 @@ module _ {A B : Type 0} {V : A → Type 0} {U : B → Type 0} {first : A → Mea
         answers = sym (cond-true w _ _ e ∙ cond-false (anybody (joined w a b .awaited)) _ _ none);
         leaves = same-meaning _ (closed (joined w a b)) same-inside refl (λ r. same-awaited r ∙ out r) ∙ sym (cond-true w _ _ e ∙ cond-false (anybody (joined w a b .awaited)) _ _ none);
       }
+
+-- ---- neither answer is the one for no wait
+
+pub not-yet-is-not-none : _≡_ {A = Poll} NotYet NoWait → ⊥
+not-yet-is-not-none e = apart (cc)
+
+pub over-is-not-none : _≡_ {A = Poll} Over NoWait → ⊥
+over-is-not-none e = apart (cc)

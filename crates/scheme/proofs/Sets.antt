@@ -1,12 +1,17 @@
 -- Sets of readers: whether anybody is in one, and one that is changed at a reader. Assumes nothing.
-use mathlib.Core.Path.{_≡_, refl, sym, ap, _∙_, fun-ext}
-use mathlib.Core.Bool.{Bool, true, false, cond, _||_}
+use mathlib.Core.Path.{_≡_, refl, ap, _∙_}
+use mathlib.Core.Bool.{Bool, true, false, _||_}
 use mathlib.Core.Logic.{⊎-elim}
 use Prim.Native.Nat.{ℕ, zero, suc, _<_}
 use native.Mathlib.Omega.{arith}
 use lib.Dec.{eqb}
-use Rattle.std.proofs.shelf.Tests.{cases-bool, cases-eq, cond-true, cond-false, eq-eqb, ne-eqb, or-parts, both-ways}
-use Rattle.scheme.specs.Meaning.{Meaning, nobody, updated, anybody-below, anybody}
+use Rattle.std.proofs.shelf.Tests.{cases-bool, cases-eq, cond-true, cond-false, eq-eqb, ne-eqb, or-parts}
+use Rattle.scheme.specs.Meaning.{Meaning, updated, anybody-below, anybody}
+
+-- ---- no two constructors are equal: `cc` leads such an equation to this one
+
+pub apart : _≡_ {A = ℕ} 0 1 → ⊥
+apart e = absurd (omega arith)
 
 -- ---- whether anybody is in a set
 
@@ -27,10 +32,6 @@ none-in f e known k = ⊎-elim (λ t. none-below f 16 e k (known k t)) (λ t. t)
 pub nobody-in : (f : ℕ → Bool) → ((k : ℕ) → f k ≡ false) → anybody f ≡ false
 unfolding anybody
 nobody-in f out = nobody-below f 16 out
-
-pub somebody-in : (f : ℕ → Bool) (k : ℕ) → k < 16 → f k ≡ true → anybody f ≡ true
-unfolding anybody
-somebody-in f k l t = ⊎-elim (λ some. some) (λ none. absurd (both-ways (f k) (none-below f 16 none k l) t)) (cases-bool (anybody f))
 
 -- ---- a set that is changed at one reader
 

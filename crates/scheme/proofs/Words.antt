@@ -9,10 +9,11 @@ use native.Mathlib.Omega.{arith}
 use lib.Dec.{eqb, ltb}
 use lib.Bits.{bitAnd, bitOr, or-shr, or-mod, and-shr, and-mod, and-mask}
 use Rattle.std.proofs.shelf.Bits.{one-shl, mod-below, shr-shr, shr-below}
-use Rattle.std.proofs.shelf.Tests.{cases-lt, cases-eq, cases-bool, le-ltb, lt-ltb, ltb-true, and-parts, and-right, or-right, cond-false, eq-eqb, ne-eqb, eqb-true, eqb-false}
+use Rattle.std.proofs.shelf.Tests.{cases-lt, cases-eq, cases-bool, le-ltb, lt-ltb, ltb-true, and-parts, and-right, eq-eqb, ne-eqb, eqb-true, eqb-false}
 use Rattle.std.proofs.shelf.Ways.{decides-below-and}
 use Rattle.scheme.specs.Meaning.{nobody, updated, anybody}
 use Rattle.scheme.specs.ReaderSets.{has-bit}
+use Rattle.scheme.specs.Visits.{same}
 use Rattle.scheme.proofs.Sets.{none-in, nobody-in, updated-elsewhere}
 
 -- ---- one bit of a word
@@ -85,23 +86,18 @@ below p n h = decides-below-and p (λ k. p k ≡ true) (all-below p) (λ k. ((λ
 table : (p : ℕ → ℕ → Bool) → all-below (λ k. all-below (p k) 16) 16 ≡ true → (k x : ℕ) → k < 16 → x < 16 → p k x ≡ true
 table p computed k x hk hx = below (p k) 16 (below (λ j. all-below (p j) 16) 16 computed k hk) x hx
 
-agree : Bool → Bool → Bool
-agree true b = b
-agree false b = not b
-
-agreed : (a b : Bool) → agree a b ≡ true → a ≡ b
-unfolding agree
+agreed : (a b : Bool) → same a b ≡ true → a ≡ b
 agreed true b e = sym e
 agreed false true e = e
 agreed false false e = refl
 
 one-bit : (k x : ℕ) → k < 16 → x < 16 → eqb (2 ^ k / 2 ^ x % 2) 1 ≡ eqb x k
-unfolding all-below agree
-one-bit k x hk hx = agreed _ _ (table (λ k x. agree (eqb (2 ^ k / 2 ^ x % 2) 1) (eqb x k)) refl k x hk hx)
+unfolding all-below
+one-bit k x hk hx = agreed _ _ (table (λ k x. same (eqb (2 ^ k / 2 ^ x % 2) 1) (eqb x k)) refl k x hk hx)
 
 all-but-one : (k x : ℕ) → k < 16 → x < 16 → eqb ((65535 - 2 ^ k) / 2 ^ x % 2) 1 ≡ not (eqb x k)
-unfolding all-below agree
-all-but-one k x hk hx = agreed _ _ (table (λ k x. agree (eqb ((65535 - 2 ^ k) / 2 ^ x % 2) 1) (not (eqb x k))) refl k x hk hx)
+unfolding all-below
+all-but-one k x hk hx = agreed _ _ (table (λ k x. same (eqb ((65535 - 2 ^ k) / 2 ^ x % 2) 1) (not (eqb x k))) refl k x hk hx)
 
 put-in : (t b : Bool) → (t || b) ≡ cond b true t
 put-in true true = refl

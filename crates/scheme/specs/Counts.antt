@@ -1,6 +1,7 @@
 -- How many readers a set has. Assumes nothing.
 use mathlib.Core.Bool.{Bool, true, false}
 use Prim.Native.Nat.{ℕ, zero, suc, _+_}
+use Rattle.scheme.specs.Meaning.{readers}
 
 -- 1 for true, 0 for false
 abbrev pub one : Bool → ℕ
@@ -14,4 +15,4 @@ count-below f (suc n) = count-below f n + one (f n)
 
 -- how many readers are in f
 unfoldable pub number : (ℕ → Bool) → ℕ
-number f = count-below f 16
+number f = count-below f readers

@@ -1,22 +1,22 @@
 -- Calls on a scheme and their answers, in the words of visits and waits. Assumes nothing.
 use mathlib.Core.Path.{_≡_}
-use mathlib.Core.Bool.{true}
+use mathlib.Core.Bool.{true, false}
 use mathlib.Core.List.{List, [], _∷_, _++_}
 use mathlib.Core.Logic.{_↔_}
 use Prim.Native.Nat.{ℕ, _<_}
-use Rattle.scheme.specs.declared.interface.Poll.the-variants.{NoWait, Over}
+use Rattle.scheme.specs.declared.interface.Poll.the-variants.{NoWait, NotYet, Over}
 use Rattle.scheme.specs.declared.script.Call.{Call}
 use Rattle.scheme.specs.declared.script.Call.the-variants.{Enter, Leave, Begin, Poll}
 use Rattle.scheme.specs.declared.script.Answer.{Answer}
 use Rattle.scheme.specs.declared.script.Answer.the-variants.{Accepted, Refused, Polled}
-use Rattle.scheme.specs.Meaning.{Meaning}
+use Rattle.scheme.specs.Meaning.{Meaning, readers}
 
 -- ---- lists with the newest element first
 
 -- P holds of one of the elements
-pub data Some {M : Type 0} (P : M → Type 0) : List M → Type 0 where
-  here : {x : M} {h : List M} → P x → Some P (x ∷ h)
-  there : {x : M} {h : List M} → Some P h → Some P (x ∷ h)
+pub data Any {M : Type 0} (P : M → Type 0) : List M → Type 0 where
+  here : {x : M} {h : List M} → P x → Any P (x ∷ h)
+  there : {x : M} {h : List M} → Any P h → Any P (x ∷ h)
 
 -- something started and has not stopped since
 pub data Since {M : Type 0} (Starts Stops : M → Type 0) : List M → Type 0 where
@@ -63,16 +63,31 @@ Waiting = Since Begins Finds-over
 -- a wait began after older, and newer is what came since: it is open, whatever else happened
 pub record Open (newer older h : History) : Type 0 where
   pub begun : h ≡ newer ++ moment Begin Accepted ∷ older
-  pub not-over : ¬ (Some Finds-over newer)
+  pub not-over : ¬ (Any Finds-over newer)
+
+-- every visit that was under way after older has ended in newer
+abbrev pub All-gone : History → History → Type 0
+All-gone newer older = (r : ℕ) → Visiting r older → Any (Leaves r) newer
 
 -- ---- the law
 
--- the answer a to the call c is right after the history h. A poll finds a wait over exactly when every visit that was under way at its start has ended
+-- the call was accepted if P, and refused if not
+pub record Accepted-if (P : Type 0) (a : Answer) : Type 0 where
+  pub accepted : (a ≡ Accepted) ↔ P
+  pub refused : (a ≡ Refused) ↔ (¬ P)
+
+-- a poll says none if no wait is open, over if all are gone that the wait awaits, and not yet if not
+pub record Polled-right (a : Answer) (h : History) : Type 0 where
+  pub none : (a ≡ Polled NoWait) ↔ (¬ (Waiting h))
+  pub over : (newer older : History) → Open newer older h → (a ≡ Polled Over) ↔ All-gone newer older
+  pub not-yet : (newer older : History) → Open newer older h → (a ≡ Polled NotYet) ↔ (¬ (All-gone newer older))
+
+-- the answer a to the call c is right after the history h
 abbrev pub Right : Call → Answer → History → Type 0
-Right (Enter r) a h = (a ≡ Accepted) ↔ ((r < 16) × ¬ (Visiting r h))
-Right (Leave r) a h = (a ≡ Accepted) ↔ Visiting r h
-Right Begin a h = (a ≡ Accepted) ↔ (¬ (Waiting h))
-Right Poll a h = ((a ≡ Polled NoWait) ↔ (¬ (Waiting h))) × ((newer older : History) → Open newer older h → (a ≡ Polled Over) ↔ ((r : ℕ) → Visiting r older → Some (Leaves r) newer))
+Right (Enter r) a h = Accepted-if ((r < readers) × ¬ (Visiting r h)) a
+Right (Leave r) a h = Accepted-if (Visiting r h) a
+Right Begin a h = Accepted-if (¬ (Waiting h)) a
+Right Poll a h = Polled-right a h
 
 -- what holds of every history of calls on a new scheme, and of the meaning that it leaves
 pub record Lawful (h : History) (m : Meaning) : Type 0 where
@@ -81,5 +96,6 @@ pub record Lawful (h : History) (m : Meaning) : Type 0 where
   -- inside are the readers in a visit, and the wait is open that began and was not found over
   pub inside : (r : ℕ) → (m .inside r ≡ true) ↔ Visiting r h
   pub waits : (m .waits ≡ true) ↔ Waiting h
-  -- the open wait awaits the visits that were under way at its start and have not ended since
-  pub awaited : (newer older : History) → Open newer older h → (r : ℕ) → (m .awaited r ≡ true) ↔ (Visiting r older × ¬ (Some (Leaves r) newer))
+  -- awaited are the readers whose visit was under way at the start of the open wait and has not ended since
+  pub awaited : (newer older : History) → Open newer older h → (r : ℕ) → (m .awaited r ≡ true) ↔ (Visiting r older × ¬ (Any (Leaves r) newer))
+  pub quiet : ¬ (Waiting h) → (r : ℕ) → m .awaited r ≡ false

@@ -4,19 +4,23 @@ use mathlib.Core.Bool.{Bool, true, false, not, _&&_, _||_, cond}
 use Prim.Native.Nat.{ℕ, zero, suc, _<_}
 use lib.Dec.{eqb, ltb}
 
--- who is inside, whether a wait is open, and whom that wait awaits
+-- there are readers 0 to 15
+abbrev pub readers : ℕ
+readers = 16
+
+-- the state of a scheme as two sets of readers and a flag
 pub record Meaning : Type 0 where
-  pub inside : ℕ → Bool
-  pub waits : Bool
-  pub awaited : ℕ → Bool
+  pub inside : ℕ → Bool  -- the readers in a visit
+  pub waits : Bool  -- a wait is open
+  pub awaited : ℕ → Bool  -- the readers whose visits the open wait awaits
 
 -- what holds after any calls on a new scheme
 pub record Sound (m : Meaning) : Type 0 where
-  -- readers are numbered from 0 to 15
-  pub known : (r : ℕ) → m .inside r ≡ true → r < 16
-  -- awaited readers are inside
+  -- whoever is inside is a reader
+  pub known : (r : ℕ) → m .inside r ≡ true → r < readers
+  -- whoever is awaited is inside
   pub within : (r : ℕ) → m .awaited r ≡ true → m .inside r ≡ true
-  -- with no wait open nobody is awaited
+  -- and that only while a wait is open
   pub quiet : (r : ℕ) → m .waits ≡ false → m .awaited r ≡ false
 
 -- ---- sets of readers
@@ -35,7 +39,7 @@ anybody-below f (suc n) = f n || anybody-below f n
 
 -- whether a reader is in f
 unfoldable pub anybody : (ℕ → Bool) → Bool
-anybody f = anybody-below f 16
+anybody f = anybody-below f readers
 
 -- ---- the meaning after a call that is accepted
 
@@ -61,7 +65,7 @@ pub record Outcome (A : Type 0) : Type 0 where
   pub leaves : Meaning
 
 abbrev pub may-enter : ℕ → Meaning → Bool
-may-enter r m = ltb r 16 && not (m .inside r)
+may-enter r m = ltb r readers && not (m .inside r)
 
 abbrev pub on-enter : ℕ → Meaning → Outcome Bool
 on-enter r m = record { answer = may-enter r m; leaves = cond (may-enter r m) (entered m r) m }

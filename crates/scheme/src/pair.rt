@@ -1,4 +1,4 @@
-// Two schemes as one: readers 0 to 7 go to the first, 8 to 15 to the second as 0 to 7.
+// Two schemes as one: the first has readers 0 to 7, the second readers 8 to 15, which it knows as 0 to 7.
 ghost use Rattle.scheme.specs.Halves.{Joins, joined};
 use crate::interface::Poll;
 use crate::interface::READERS;
@@ -52,6 +52,7 @@ pub impl<A: Scheme, B: Scheme> Scheme for Pair<A, B> as PairScheme {
         if self.waits {
             return false;
         }
+        // Neither half has a wait open, so both accept.
         let _ = self.first.begin();
         let _ = self.second.begin();
         self.waits = true;

@@ -15,11 +15,11 @@ pub struct Phase {
     phase: bool,
     waits: bool,
     // With no wait open all readers inside entered under the current phase.
-    ghost settled: { (r : ℕ) → waits ≡ false → under (visits .of) phase r ≡ visiting (visits .of) r },
+    ghost settled: { (r : ℕ) → waits ≡ false → under (visits .table) phase r ≡ visiting (visits .table) r },
 }
 
 pub impl Scheme for Phase as PhaseScheme {
-    ghost meaning = { λ s. phased (s .visits .of) (s .phase) (s .waits) };
+    ghost meaning = { λ s. phased (s .visits .table) (s .phase) (s .waits) };
 
     // Every value will do, since the type says what holds of it.
     ghost valid = { λ _. Unit {0} };

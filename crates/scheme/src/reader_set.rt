@@ -1,8 +1,8 @@
 // A set of readers in sixteen bits: reader r is in it where bit r is 1.
 ghost use mathlib.Core.Path.{_≡_};
-ghost use mathlib.Core.Bool.{Bool, false, not, true};
+ghost use mathlib.Core.Bool.{false, not, true};
 ghost use Prim.Native.Nat.{_<_};
-ghost use Rattle.scheme.specs.Meaning.{anybody, nobody, updated};
+ghost use Rattle.scheme.specs.Meaning.{anybody, nobody, readers, updated};
 ghost use Rattle.scheme.specs.ReaderSets.{members};
 use crate::interface::READERS;
 
@@ -20,13 +20,13 @@ impl ReaderSet {
 
     pub fn contains(self, reader: u32) -> bool
         ensures answer { λ b. ⌜ b ≡ members self reader ⌝ }
-        ensures known { λ b. ⌜ (b ≡ true → reader < 16) ⌝ }
+        ensures known { λ b. ⌜ (b ≡ true → reader < readers) ⌝ }
     {
         reader < READERS && (self.bits >> reader) & 1 == 1
     }
 
     pub fn with(self, reader: u32) -> ReaderSet
-        requires { ⌜ reader < 16 ⌝ }
+        requires { ⌜ reader < readers ⌝ }
         ensures { λ s. ⌜ members s ≡ updated (members self) reader true ⌝ }
     {
         ReaderSet {
@@ -35,7 +35,7 @@ impl ReaderSet {
     }
 
     pub fn without(self, reader: u32) -> ReaderSet
-        requires { ⌜ reader < 16 ⌝ }
+        requires { ⌜ reader < readers ⌝ }
         ensures { λ s. ⌜ members s ≡ updated (members self) reader false ⌝ }
     {
         ReaderSet {
@@ -45,7 +45,7 @@ impl ReaderSet {
 
     pub fn is_empty(self) -> bool
         ensures answer { λ b. ⌜ b ≡ not (anybody (members self)) ⌝ }
-        ensures nobody { λ b. ⌜ (b ≡ true → members self ≡ nobody) ⌝ }
+        ensures empty { λ b. ⌜ (b ≡ true → members self ≡ nobody) ⌝ }
     {
         self.bits == 0
     }

@@ -8,6 +8,7 @@ use crate::interface::PollDebug;
 use crate::interface::PollPartialEq;
 use crate::interface::Scheme;
 
+// A call of a scheme, with the reader that makes it.
 #[derive(Clone, Copy, PartialEq, Eq, Debug)]
 pub enum Call {
     Enter(u32),
@@ -16,6 +17,7 @@ pub enum Call {
     Poll,
 }
 
+// What came of it: enter, leave and begin are accepted or refused, and a poll says what it says.
 #[derive(Clone, Copy, PartialEq, Eq, Debug)]
 pub enum Answer {
     Accepted,
@@ -23,7 +25,7 @@ pub enum Answer {
     Polled(Poll),
 }
 
-fn told_so(accepted: bool) -> Answer
+fn answer_of(accepted: bool) -> Answer
     ensures { λ a. ⌜ a ≡ told accepted ⌝ }
 {
     if accepted {
@@ -33,14 +35,15 @@ fn told_so(accepted: bool) -> Answer
     }
 }
 
-// Makes one call on a scheme.
+// Makes one call on a scheme. What is refused leaves it as it was.
 pub fn call_on<S: Scheme>(scheme: &mut S, call: Call) -> Answer
-    ensures { λ a. ⌜ (S·Scheme .valid (now (scheme .entry)) → Follows (S·Scheme .valid) (S·Scheme .meaning) (on-call call) (now (scheme .entry)) (now (scheme .exit)) a) ⌝ }
+    ensures follows { λ a. ⌜ (S·Scheme .valid (now (scheme .entry)) → Follows (S·Scheme .valid) (S·Scheme .meaning) (on-call call) (now (scheme .entry)) (now (scheme .exit)) a) ⌝ }
+    ensures refused { λ a. ⌜ (a ≡ Answer.Refused → now (scheme .exit) ≡ now (scheme .entry)) ⌝ }
 {
     match call {
-        Call::Enter(reader) => told_so(scheme.enter(reader)),
-        Call::Leave(reader) => told_so(scheme.leave(reader)),
-        Call::Begin => told_so(scheme.begin()),
+        Call::Enter(reader) => answer_of(scheme.enter(reader)),
+        Call::Leave(reader) => answer_of(scheme.leave(reader)),
+        Call::Begin => answer_of(scheme.begin()),
         Call::Poll => Answer::Polled(scheme.poll()),
     }
 }
@@ -51,6 +54,7 @@ pub fn run<S: Scheme, const N: usize>(calls: &[Call; N]) -> (S, [Answer; N])
 {
     let mut scheme = S::new();
     let mut answers = [Answer::Refused; N];
+    // As a slice, since the checker knows the length of one.
     let script: &[Call] = calls;
     for i in 0..N {
         answers[i] = call_on(&mut scheme, script[i]);

@@ -3,7 +3,7 @@ ghost use mathlib.Core.Path.{_≡_};
 ghost use mathlib.Core.Bool.{Bool, false, not, true};
 ghost use Prim.Native.Nat.{_<_};
 ghost use lib.ListN.{length};
-ghost use Rattle.scheme.specs.Meaning.{anybody, nobody, updated};
+ghost use Rattle.scheme.specs.Meaning.{anybody, nobody, readers, updated};
 ghost use Rattle.scheme.specs.Counts.{number};
 ghost use Rattle.scheme.specs.Visits.{same, under, visiting};
 ghost use Rattle.scheme.specs.Tallies.{tally};
@@ -15,33 +15,33 @@ const PLACES: usize = READERS as usize;
 
 #[derive(Drop)]
 pub struct Visits {
-    of: [Visit; PLACES],
+    table: [Visit; PLACES],
     counts: Tally,
-    ghost sized: { length of ≡ 16 },
-    // Each count is the number of readers inside that entered under that phase.
-    ghost counted: { (p : Bool) → tally counts p ≡ number (under of p) },
+    ghost sized: { length table ≡ readers },
+    // A phase's count tells how many are inside who entered under it.
+    ghost counted: { (p : Bool) → tally counts p ≡ number (under table p) },
 }
 
 impl Visits {
     pub fn none() -> Visits
-        ensures inside { λ v. ⌜ visiting (v .of) ≡ nobody ⌝ }
-        ensures phases { λ v. ⌜ ((p : Bool) → under (v .of) p ≡ nobody) ⌝ }
+        ensures inside { λ v. ⌜ visiting (v .table) ≡ nobody ⌝ }
+        ensures phases { λ v. ⌜ ((p : Bool) → under (v .table) p ≡ nobody) ⌝ }
     {
         Visits {
-            of: [Visit::Outside; PLACES],
+            table: [Visit::Outside; PLACES],
             counts: Tally::new(),
         }
     }
 
     // Whether the reader is inside.
     pub fn contains(&self, reader: u32) -> bool
-        ensures answer { λ b. ⌜ b ≡ visiting (now (self .entry) .of) reader ⌝ }
-        ensures known { λ b. ⌜ (b ≡ true → reader < 16) ⌝ }
+        ensures answer { λ b. ⌜ b ≡ visiting (now (self .entry) .table) reader ⌝ }
+        ensures known { λ b. ⌜ (b ≡ true → reader < readers) ⌝ }
     {
         if reader >= READERS {
             return false;
         }
-        let visit = self.of[reader as usize];
+        let visit = self.table[reader as usize];
         match visit {
             Visit::Outside => false,
             Visit::Under(_) => true,
@@ -49,33 +49,33 @@ impl Visits {
     }
 
     pub fn enter(&mut self, reader: u32, phase: bool)
-        requires low { ⌜ reader < 16 ⌝ }
-        requires outside { ⌜ visiting (now self .of) reader ≡ false ⌝ }
-        ensures inside { λ _. ⌜ visiting (now (self .exit) .of) ≡ updated (visiting (now (self .entry) .of)) reader true ⌝ }
-        ensures phases { λ _. ⌜ ((p : Bool) → under (now (self .exit) .of) p ≡ updated (under (now (self .entry) .of) p) reader (same phase p)) ⌝ }
+        requires low { ⌜ reader < readers ⌝ }
+        requires outside { ⌜ visiting (now self .table) reader ≡ false ⌝ }
+        ensures inside { λ _. ⌜ visiting (now (self .exit) .table) ≡ updated (visiting (now (self .entry) .table)) reader true ⌝ }
+        ensures phases { λ _. ⌜ ((p : Bool) → under (now (self .exit) .table) p ≡ updated (under (now (self .entry) .table) p) reader (same phase p)) ⌝ }
     {
         self.counts = self.counts.one_more(phase);
-        self.of[reader as usize] = Visit::Under(phase);
+        self.table[reader as usize] = Visit::Under(phase);
     }
 
     pub fn leave(&mut self, reader: u32)
-        requires low { ⌜ reader < 16 ⌝ }
-        requires inside { ⌜ visiting (now self .of) reader ≡ true ⌝ }
-        ensures inside { λ _. ⌜ visiting (now (self .exit) .of) ≡ updated (visiting (now (self .entry) .of)) reader false ⌝ }
-        ensures phases { λ _. ⌜ ((p : Bool) → under (now (self .exit) .of) p ≡ updated (under (now (self .entry) .of) p) reader false) ⌝ }
+        requires low { ⌜ reader < readers ⌝ }
+        requires inside { ⌜ visiting (now self .table) reader ≡ true ⌝ }
+        ensures inside { λ _. ⌜ visiting (now (self .exit) .table) ≡ updated (visiting (now (self .entry) .table)) reader false ⌝ }
+        ensures phases { λ _. ⌜ ((p : Bool) → under (now (self .exit) .table) p ≡ updated (under (now (self .entry) .table) p) reader false) ⌝ }
     {
-        let visit = self.of[reader as usize];
+        let visit = self.table[reader as usize];
         if let Visit::Under(phase) = visit {
             self.counts = self.counts.one_less(phase);
-            self.of[reader as usize] = Visit::Outside;
+            self.table[reader as usize] = Visit::Outside;
         }
     }
 
     // Whether a reader is inside that entered under the phase; if not, all entered under the other.
     pub fn any_under(&self, phase: bool) -> bool
-        ensures answer { λ b. ⌜ b ≡ anybody (under (now (self .entry) .of) phase) ⌝ }
-        ensures nobody { λ b. ⌜ (b ≡ false → under (now (self .entry) .of) phase ≡ nobody) ⌝ }
-        ensures others { λ b. ⌜ (b ≡ false → under (now (self .entry) .of) (not phase) ≡ visiting (now (self .entry) .of)) ⌝ }
+        ensures answer { λ b. ⌜ b ≡ anybody (under (now (self .entry) .table) phase) ⌝ }
+        ensures empty { λ b. ⌜ (b ≡ false → under (now (self .entry) .table) phase ≡ nobody) ⌝ }
+        ensures others { λ b. ⌜ (b ≡ false → under (now (self .entry) .table) (not phase) ≡ visiting (now (self .entry) .table)) ⌝ }
     {
         self.counts.of(phase) > 0
     }

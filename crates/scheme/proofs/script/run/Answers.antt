@@ -21,7 +21,7 @@ loop-i-holds g c =
 pub loop-i-again : need.loop-i-again
 loop-i-again g c =
     let inv = c .loop-i .inv in
-    let did = c .call-on .ensures (inv .0) in
+    let did = c .call-on .ensures .follows (inv .0) in
     let so-far = one-more (c .args .calls .now) (c .loop-i .answers) (c .loop-i .i) (Enter 0) (omega (arith, inv .4)) (omega (arith, inv .3)) did in
     (did .valid, so-far .0 ∙ inv .1, so-far .1 ∙ inv .2, length-set _ _ _ ∙ inv .3, inv .4)
 

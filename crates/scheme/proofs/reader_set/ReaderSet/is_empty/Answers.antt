@@ -6,4 +6,4 @@ use Rattle.scheme.proofs.reader_set.ReaderSet.is_empty.Needs as need
 pub returns : need.returns
 returns c =
     let fits : c .args .self .bits < 2 ^ 16 = search needs in
-    record { answer = empty-word _ fits; nobody = none-in-empty _ }
+    record { answer = empty-word _ fits; empty = none-in-empty _ }

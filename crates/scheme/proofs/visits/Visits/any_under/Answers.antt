@@ -6,4 +6,4 @@ pub returns : need.returns
 returns c =
     let s = c .args .self .now in
     let counted = c .of .ensures ∙ s .counted (c .args .phase) in
-    record { answer = count-tells _ _ (s .sized) counted; nobody = nobody-under _ _ (s .sized) counted; others = others-under _ _ (s .sized) counted }
+    record { answer = count-tells _ _ (s .sized) counted; empty = nobody-under _ _ (s .sized) counted; others = others-under _ _ (s .sized) counted }

@@ -7,7 +7,7 @@ use Rattle.scheme.proofs.visits.Visits.contains.Needs as need
 pub returns-then-reader-ge-READERS : need.returns-then-reader-ge-READERS
 returns-then-reader-ge-READERS c =
     let s = c .args .self .now in
-    record { answer = sym (nobody-past (s .of) _ (omega (arith, s .sized))); known = λ t. absurd (false≢true t) }
+    record { answer = sym (nobody-past (s .table) _ (omega (arith, s .sized))); known = λ t. absurd (false≢true t) }
 
 pub returns-in-Outside : need.returns-in-Outside
 returns-in-Outside c = record { answer = sym (visiting-at _ _ _ (c .in-Outside .is)); known = λ t. c .if-reader-ge-READERS .left }

@@ -8,13 +8,13 @@ use Rattle.scheme.proofs.visits.Visits.leave.Needs as need
 pub one-less-self-requires : need.one-less-self-requires
 one-less-self-requires c κs =
     let s = c .args .self .now in
-    omega (arith, s .counted (c .in-Under .phase), some-counted (s .of) (c .args .reader) (s .sized) (c .pre .low) (c .in-Under .phase) (c .in-Under .is))
+    omega (arith, s .counted (c .in-Under .phase), some-counted (s .table) (c .args .reader) (s .sized) (c .pre .low) (c .in-Under .phase) (c .in-Under .is))
 
 pub ghost-self : need.ghost-self
 ghost-self c =
     let s = c .args .self .now in (
-      length-set (s .of) _ _ ∙ s .sized,
-      ((λ q. omega (arith, c .one-less-self .ensures q, s .counted q, one-less (s .of) (c .args .reader) (s .sized) (c .pre .low) (c .in-Under .phase) q (c .in-Under .is))), tt),
+      length-set (s .table) _ _ ∙ s .sized,
+      ((λ q. omega (arith, c .one-less-self .ensures q, s .counted q, one-less (s .table) (c .args .reader) (s .sized) (c .pre .low) (c .in-Under .phase) q (c .in-Under .is))), tt),
     )
 
 pub returns-in-Under : need.returns-in-Under
