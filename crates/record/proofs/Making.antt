@@ -7,7 +7,7 @@ use Prim.Native.Nat.{ℕ, suc, _+_, _≤_, _<_}
 use native.Mathlib.Omega.{arith}
 use lib.Dec.{T}
 use lib.IntN.{ℤ}
-use lib.Signed.{leZ, _≤ℤ_}
+use lib.Signed.{leZ}
 use lib.ListN.{length}
 use Rattle.std.proofs.shelf.Tests.{false≢true}
 use Rattle.record.specs.declared.way.Way.{Way}

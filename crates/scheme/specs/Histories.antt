@@ -76,7 +76,7 @@ pub record Accepted-if (P : Type 0) (a : Answer) : Type 0 where
   pub accepted : (a ≡ Accepted) ↔ P
   pub refused : (a ≡ Refused) ↔ (¬ P)
 
--- a poll says none if no wait is open, over if all are gone that the wait awaits, and not yet if not
+-- what a poll has to say: none without an open wait; with one, over if all visits that it awaits have ended, and not yet if not
 pub record Polled-right (a : Answer) (h : History) : Type 0 where
   pub none : (a ≡ Polled NoWait) ↔ (¬ (Waiting h))
   pub over : (newer older : History) → Open newer older h → (a ≡ Polled Over) ↔ All-gone newer older

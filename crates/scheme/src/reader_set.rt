@@ -18,6 +18,7 @@ impl ReaderSet {
         ReaderSet { bits: 0 }
     }
 
+    // Whether the reader is in the set; no reader past the last one is.
     pub fn contains(self, reader: u32) -> bool
         ensures answer { λ b. ⌜ b ≡ members self reader ⌝ }
         ensures known { λ b. ⌜ (b ≡ true → reader < readers) ⌝ }
@@ -25,6 +26,7 @@ impl ReaderSet {
         reader < READERS && (self.bits >> reader) & 1 == 1
     }
 
+    // The set and this reader.
     pub fn with(self, reader: u32) -> ReaderSet
         requires { ⌜ reader < readers ⌝ }
         ensures { λ s. ⌜ members s ≡ updated (members self) reader true ⌝ }
@@ -34,6 +36,7 @@ impl ReaderSet {
         }
     }
 
+    // The set but for this reader.
     pub fn without(self, reader: u32) -> ReaderSet
         requires { ⌜ reader < readers ⌝ }
         ensures { λ s. ⌜ members s ≡ updated (members self) reader false ⌝ }

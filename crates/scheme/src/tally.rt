@@ -1,4 +1,4 @@
-// One count for each phase.
+// Two counts of readers, one for each phase: zeros for phase 0 (false), ones for phase 1 (true).
 ghost use mathlib.Core.Path.{_≡_};
 ghost use mathlib.Core.Bool.{Bool};
 ghost use Prim.Native.Nat.{_+_, _<_};
@@ -19,12 +19,14 @@ impl Tally {
         Tally { zeros: 0, ones: 0 }
     }
 
+    // The count of one phase.
     pub fn of(self, phase: bool) -> u8
         ensures { λ n. ⌜ n ≡ tally self phase ⌝ }
     {
         if phase { self.ones } else { self.zeros }
     }
 
+    // One reader more under the phase; the other count stays.
     pub fn one_more(self, phase: bool) -> Tally
         requires { ⌜ tally self phase < 16 ⌝ }
         ensures { λ t. ⌜ ((q : Bool) → tally t q ≡ tally self q + one (same phase q)) ⌝ }
@@ -42,6 +44,7 @@ impl Tally {
         }
     }
 
+    // One reader less under the phase; the other count stays.
     pub fn one_less(self, phase: bool) -> Tally
         requires { ⌜ 0 < tally self phase ⌝ }
         ensures { λ t. ⌜ ((q : Bool) → tally t q + one (same phase q) ≡ tally self q) ⌝ }

@@ -23,6 +23,7 @@ pub struct Visits {
 }
 
 impl Visits {
+    // All readers are outside.
     pub fn none() -> Visits
         ensures inside { λ v. ⌜ visiting (v .table) ≡ nobody ⌝ }
         ensures phases { λ v. ⌜ ((p : Bool) → under (v .table) p ≡ nobody) ⌝ }
@@ -48,6 +49,7 @@ impl Visits {
         }
     }
 
+    // A visit of a reader that is outside begins under the phase.
     pub fn enter(&mut self, reader: u32, phase: bool)
         requires low { ⌜ reader < readers ⌝ }
         requires outside { ⌜ visiting (now self .table) reader ≡ false ⌝ }
@@ -58,6 +60,7 @@ impl Visits {
         self.table[reader as usize] = Visit::Under(phase);
     }
 
+    // The visit of a reader that is inside ends, and its phase has one reader less.
     pub fn leave(&mut self, reader: u32)
         requires low { ⌜ reader < readers ⌝ }
         requires inside { ⌜ visiting (now self .table) reader ≡ true ⌝ }
