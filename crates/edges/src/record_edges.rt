@@ -52,7 +52,7 @@ const PARS: [Edge; 12] = [
     (6, 0, 5, -2_147_483_648, 1),
 ];
 
-fn fault_of<R: Record + Drop>(edge: Edge) -> u8 {
+fn fault_of<R: Record>(edge: Edge) -> u8 {
     match R::make(edge.0, edge.1, edge.2, edge.3) {
         Ok(_) => 0,
         Err(fault) => fault.field,
@@ -76,7 +76,7 @@ fn parameters() -> Result<(), Fail> {
 }
 
 // A record has the numbers that it was made of, each in its place, and no more.
-fn check_fields<R: Record + Drop>(edge: Edge) -> Result<(), Fail> {
+fn check_fields<R: Record>(edge: Edge) -> Result<(), Fail> {
     let numbers = [edge.0, edge.1, edge.2, edge.3];
     let Ok(it) = R::make(edge.0, edge.1, edge.2, edge.3) else {
         return Err(Fail::new("not made"));

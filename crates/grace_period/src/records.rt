@@ -7,7 +7,7 @@ use record::WayRecord;
 use std::io;
 
 // What came of making: the fields, or the field at fault.
-fn show<R: Record + Drop>(rt: &impl Print, a: i32, b: i32, c: i32, d: i32) -> io::Result<()> {
+fn show<R: Record>(rt: &impl Print, a: i32, b: i32, c: i32, d: i32) -> io::Result<()> {
     let kind = R::own_kind().word();
     match R::make(a, b, c, d) {
         Ok(it) => show_fields(rt, kind, &it),

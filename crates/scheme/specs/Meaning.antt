@@ -41,7 +41,7 @@ anybody-below f (suc n) = f n || anybody-below f n
 unfoldable pub anybody : (ℕ → Bool) → Bool
 anybody f = anybody-below f readers
 
--- ---- the meaning after a call that is accepted
+-- ---- the meaning of a new scheme, and the meaning after each call that is accepted
 
 abbrev pub at-start : Meaning
 at-start = record { inside = nobody; waits = false; awaited = nobody }

@@ -11,6 +11,7 @@ use crate::interface::READERS;
 use crate::tally::Tally;
 use crate::visit::Visit;
 
+// The table has a place for each reader.
 const PLACES: usize = READERS as usize;
 
 #[derive(Drop)]
