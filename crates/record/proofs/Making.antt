@@ -112,3 +112,20 @@ pub par-limits : (a b c d : ℤ) (p : Par) → par-fields p ≡ a ∷ b ∷ c �
 par-limits a b c d p e =
     let same = par-sound .own (p .value) (p .least) (p .most) d a b c d e in
     ((λ within. sym same ∙ par-own p d .0 within), (λ m. par-own p d .1 (same ∙ m)))
+
+-- ---- a record is no more than its fields
+
+pub way-told : (v w : Way) → way-fields v ≡ way-fields w → v ≡ w
+way-told v w e =
+    let latitude : v .latitude ≡ w .latitude = cc in
+    let longitude : v .longitude ≡ w .longitude = cc in
+    let height : v .height ≡ w .height = cc in
+    let speed : v .speed ≡ w .speed = cc in
+    λ i. record { latitude = latitude i; longitude = longitude i; height = height i; speed = speed i }
+
+pub par-told : (p q : Par) → par-fields p ≡ par-fields q → p ≡ q
+par-told p q e =
+    let value : p .value ≡ q .value = cc in
+    let least : p .least ≡ q .least = cc in
+    let most : p .most ≡ q .most = cc in
+    λ i. record { value = value i; least = least i; most = most i }

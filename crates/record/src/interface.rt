@@ -17,7 +17,7 @@ pub struct Fault {
     pub field: u8,
 }
 
-// Only `make` gives a record, so one outside its kind's limits does not exist.
+// `make` gives only records within the limits. A kind keeps its fields private, so that nothing else gives one.
 pub trait Record: Copy {
     // Which kind it is.
     ghost kind: { Kind };
@@ -40,6 +40,9 @@ pub trait Record: Copy {
     law most: { count ≤ 4 };
 
     law full: { (x : Self) → length (fields x) ≡ count };
+
+    // A record is no more than its fields.
+    law told: { (x y : Self) → fields x ≡ fields y → x ≡ y };
 
     // A record has just the numbers that it was made of, and a kind reads no number but its own.
     law sound: { Sound-making count making };

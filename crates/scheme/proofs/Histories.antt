@@ -14,7 +14,7 @@ use Rattle.scheme.specs.declared.script.Answer.{Answer}
 use Rattle.scheme.specs.declared.script.Answer.the-variants.{Accepted, Refused, Polled}
 use Rattle.scheme.specs.Meaning.{Meaning, Sound, updated, anybody-below, anybody, at-start, entered, left, begun, closed, may-enter, on-enter, on-leave, on-begin}
 use Rattle.scheme.specs.Polls.{on-poll}
-use Rattle.scheme.specs.Scripts.{told, answer-to, left-by, after, answers}
+use Rattle.scheme.specs.Scripts.{told, answer-to, after-call, after, answers}
 use Rattle.scheme.specs.Histories.{Any, Since, Moment, moment, History, recorded, Enters, Leaves, Begins, Finds-over, Visiting, Waiting, Open, All-gone, Accepted-if, Polled-right, Right, Lawful}
 use Rattle.scheme.proofs.Sets.{apart, none-in, updated-here, updated-elsewhere}
 use Rattle.scheme.proofs.Polls.{inside-stays, known-awaited}
@@ -22,23 +22,23 @@ use Rattle.scheme.proofs.Polls.{inside-stays, known-awaited}
 -- the plain meaning after a history that calls on it can have
 pub data Runs : History → Meaning → Type 0 where
   new : Runs [] at-start
-  called : {h : History} {m : Meaning} → Runs h m → (c : Call) → Runs (moment c (answer-to c m) ∷ h) (left-by c m)
+  called : {h : History} {m : Meaning} → Runs h m → (c : Call) → Runs (moment c (answer-to c m) ∷ h) (after-call c m)
 
 -- ---- what holds of every meaning
 
-enter-sound : (q : ℕ) (m : Meaning) → Sound m → Sound (on-enter q m .leaves)
+enter-sound : (q : ℕ) (m : Meaning) → Sound m → Sound (on-enter q m .next)
 enter-sound q m s = search needs
 
-leave-sound : (q : ℕ) (m : Meaning) → Sound m → Sound (on-leave q m .leaves)
+leave-sound : (q : ℕ) (m : Meaning) → Sound m → Sound (on-leave q m .next)
 leave-sound q m s = search needs
 
-begin-sound : (m : Meaning) → Sound m → Sound (on-begin m .leaves)
+begin-sound : (m : Meaning) → Sound m → Sound (on-begin m .next)
 begin-sound m s = search needs
 
-poll-sound : (m : Meaning) → Sound m → Sound (on-poll m .leaves)
+poll-sound : (m : Meaning) → Sound m → Sound (on-poll m .next)
 poll-sound m s = search needs
 
-call-sound : (c : Call) (m : Meaning) → Sound m → Sound (left-by c m)
+call-sound : (c : Call) (m : Meaning) → Sound m → Sound (after-call c m)
 call-sound (Enter q) m s = enter-sound q m s
 call-sound (Leave q) m s = leave-sound q m s
 call-sound Begin m s = begin-sound m s
@@ -93,7 +93,7 @@ begin-inside : (w : Bool) (m : Meaning) (r : ℕ) → cond w m (begun m) .inside
 begin-inside true m r = refl
 begin-inside false m r = refl
 
-inside-change : (c : Call) (m : Meaning) (r : ℕ) → Change (Enters r (moment c (answer-to c m))) (Leaves r (moment c (answer-to c m))) (m .inside r) (left-by c m .inside r)
+inside-change : (c : Call) (m : Meaning) (r : ℕ) → Change (Enters r (moment c (answer-to c m))) (Leaves r (moment c (answer-to c m))) (m .inside r) (after-call c m .inside r)
 inside-change (Enter q) m r = enter-inside (may-enter q m) q m r
 inside-change (Leave q) m r = leave-inside (m .inside q) q m r
 inside-change Begin m r = Change.same (λ h. apart (cc)) (λ h. apart (cc)) (begin-inside (m .waits) m r)
@@ -122,7 +122,7 @@ poll-waits true true m = Change.same (λ h. apart (cc)) (λ h. apart (cc)) refl
 poll-waits true false m = Change.off (λ h. apart (cc)) refl refl
 poll-waits false s m = Change.same (λ h. apart (cc)) (λ h. apart (cc)) refl
 
-waits-change : (c : Call) (m : Meaning) → Change (Begins (moment c (answer-to c m))) (Finds-over (moment c (answer-to c m))) (m .waits) (left-by c m .waits)
+waits-change : (c : Call) (m : Meaning) → Change (Begins (moment c (answer-to c m))) (Finds-over (moment c (answer-to c m))) (m .waits) (after-call c m .waits)
 waits-change (Enter q) m = Change.same (λ h. apart (cc)) (λ h. apart (cc)) (enter-waits (may-enter q m) q m)
 waits-change (Leave q) m = Change.same (λ h. apart (cc)) (λ h. apart (cc)) (leave-waits (m .inside q) q m)
 waits-change Begin m = begin-waits (m .waits) m
@@ -169,7 +169,7 @@ enterer-out q m s may =
     (λ t. absurd (both-ways (m .inside q) (not-true (m .inside q) (and-parts (ltb q 16) (not (m .inside q)) may .1)) (s .within q t)))
     (λ t. t) (cases-bool (m .awaited q))
 
-awaited-change : (c : Call) (m : Meaning) (r : ℕ) → Sound m → m .waits ≡ true → ¬ (Finds-over (moment c (answer-to c m))) → Await (Leaves r (moment c (answer-to c m))) (m .awaited r) (left-by c m .awaited r)
+awaited-change : (c : Call) (m : Meaning) (r : ℕ) → Sound m → m .waits ≡ true → ¬ (Finds-over (moment c (answer-to c m))) → Await (Leaves r (moment c (answer-to c m))) (m .awaited r) (after-call c m .awaited r)
 awaited-change (Enter q) m r s e not-over = enter-awaited (may-enter q m) q m r (enterer-out q m s)
 awaited-change (Leave q) m r s e not-over = leave-awaited (m .inside q) q m r
 awaited-change Begin m r s e not-over = Await.kept (λ h. apart (cc)) (begin-awaited (m .waits) m r e)
@@ -203,7 +203,7 @@ module _ {r : ℕ} {x : Moment} {newer : History} {b b′ : Bool} where
   none-left (Await.gone p e) so t = absurd (both-ways b′ e t)
   none-left (Await.kept n e) so t = let before = so (sym e ∙ t) in (before .0, λ l. before .1 (some-older (Leaves r) n l))
 
-awaiting-more : (c : Call) {newer older : History} {m : Meaning} → Sound m → ¬ (Finds-over (moment c (answer-to c m))) → Awaiting newer older m → Awaiting (moment c (answer-to c m) ∷ newer) older (left-by c m)
+awaiting-more : (c : Call) {newer older : History} {m : Meaning} → Sound m → ¬ (Finds-over (moment c (answer-to c m))) → Awaiting newer older m → Awaiting (moment c (answer-to c m) ∷ newer) older (after-call c m)
 awaiting-more c {m = m} s not-over so =
     record {
       waiting = still-on (waits-change c m) not-over (so .waiting);
@@ -221,7 +221,7 @@ just-begun false m so e =
       awaited-only = λ r t. (so r .0 t, λ l. absurd (none-some l));
     }
 
-begun-now : (c : Call) {h : History} {m : Meaning} → Runs h m → Begins (moment c (answer-to c m)) → Awaiting [] h (left-by c m)
+begun-now : (c : Call) {h : History} {m : Meaning} → Runs h m → Begins (moment c (answer-to c m)) → Awaiting [] h (after-call c m)
 begun-now (Enter q) run e = absurd (apart (cc))
 begun-now (Leave q) run e = absurd (apart (cc))
 begun-now Begin {m = m} run e = just-begun (m .waits) m (visits run) (cc)
@@ -233,11 +233,11 @@ awaiting Runs.new (y ∷ newer) older e not-over = absurd (apart (cc))
 awaiting (Runs.called {h} {m} run c) [] older e not-over =
     let now : Begins (moment c (answer-to c m)) = cc in
     let before : h ≡ older = cc in
-    subst (λ (o : History). Awaiting [] o (left-by c m)) before (begun-now c run now)
+    subst (λ (o : History). Awaiting [] o (after-call c m)) before (begun-now c run now)
 awaiting (Runs.called {h} {m} run c) (y ∷ newer) older e not-over =
     let newest : moment c (answer-to c m) ≡ y = cc in
     let before : h ≡ newer ++ moment Begin Accepted ∷ older = cc in
-    subst (λ (x : Moment). Awaiting (x ∷ newer) older (left-by c m)) newest
+    subst (λ (x : Moment). Awaiting (x ∷ newer) older (after-call c m)) newest
     (awaiting-more c (sound run) (λ o. not-over (Any.here (sym newest ∙ o))) (awaiting run newer older before (λ o. not-over (Any.there o))))
 
 -- ---- each answer is right

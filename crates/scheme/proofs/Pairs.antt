@@ -59,7 +59,7 @@ module _ (f g : ℕ → Bool) (first-low : (x : ℕ) → f x ≡ true → x < 8)
 pub record Polled (w w′ : Bool) (a b a′ b′ : Meaning) (said : Poll) : Type 0 where
   pub joins : Joins w′ a′ b′
   pub answers : said ≡ on-poll (joined w a b) .answer
-  pub leaves : joined w′ a′ b′ ≡ on-poll (joined w a b) .leaves
+  pub next : joined w′ a′ b′ ≡ on-poll (joined w a b) .next
 
 module _ {A B : Type 0} {V : A → Type 0} {U : B → Type 0} {first : A → Meaning} {second : B → Meaning} {s s′ : A} {t t′ : B} {x y : Poll} {w : Bool} (e : w ≡ true) (sa : Sound (first s)) (sb : Sound (second t)) (j : Joins w (first s) (second t)) (p : Follows V first on-poll s s′ x) (q : Follows U second on-poll t t′ y) where
   abbrev a : Meaning
@@ -80,19 +80,19 @@ module _ {A B : Type 0} {V : A → Type 0} {U : B → Type 0} {first : A → Mea
       ∙ anybody-beside (a .awaited) (b .awaited) (λ r t. j .first-low r (sa .within r t)) (λ r t. j .second-low r (sb .within r t))
 
   first-inside : first s′ .inside ≡ a .inside
-  first-inside = ap (λ m. m .inside) (p .leaves) ∙ inside-stays a
+  first-inside = ap (λ m. m .inside) (p .next) ∙ inside-stays a
 
   second-inside : second t′ .inside ≡ b .inside
-  second-inside = ap (λ m. m .inside) (q .leaves) ∙ inside-stays b
+  second-inside = ap (λ m. m .inside) (q .next) ∙ inside-stays b
 
   same-inside : (r : ℕ) → side-by-side (first s′ .inside) (second t′ .inside) r ≡ side-by-side (a .inside) (b .inside) r
   same-inside r = λ i. side-by-side (first-inside i) (second-inside i) r
 
   first-awaited : (r : ℕ) → first s′ .awaited r ≡ a .awaited r
-  first-awaited r = ap (λ m. m .awaited r) (p .leaves) ∙ awaited-stay a sa r
+  first-awaited r = ap (λ m. m .awaited r) (p .next) ∙ awaited-stay a sa r
 
   second-awaited : (r : ℕ) → second t′ .awaited r ≡ b .awaited r
-  second-awaited r = ap (λ m. m .awaited r) (q .leaves) ∙ awaited-stay b sb r
+  second-awaited r = ap (λ m. m .awaited r) (q .next) ∙ awaited-stay b sb r
 
   same-awaited : (r : ℕ) → side-by-side (first s′ .awaited) (second t′ .awaited) r ≡ side-by-side (a .awaited) (b .awaited) r
   same-awaited r = λ i. cond (ltb r 8) (first-awaited r i) (second-awaited (r - 8) i)
@@ -114,7 +114,7 @@ module _ {A B : Type 0} {V : A → Type 0} {U : B → Type 0} {first : A → Mea
       record {
         joins = joins-on w (λ f. absurd (both-ways w f e)) (λ f. absurd (both-ways w f e));
         answers = sym (cond-true w _ _ e ∙ cond-true (anybody (joined w a b .awaited)) _ _ awaits);
-        leaves = same-meaning _ (joined w a b) same-inside refl same-awaited ∙ sym (cond-true w _ _ e ∙ cond-true (anybody (joined w a b .awaited)) _ _ awaits);
+        next = same-meaning _ (joined w a b) same-inside refl same-awaited ∙ sym (cond-true w _ _ e ∙ cond-true (anybody (joined w a b .awaited)) _ _ awaits);
       }
 
   -- where neither does, the pair's wait is over
@@ -126,9 +126,9 @@ module _ {A B : Type 0} {V : A → Type 0} {U : B → Type 0} {first : A → Mea
       let out : (r : ℕ) → joined w a b .awaited r ≡ false =
       out-of-both (a .awaited) (b .awaited) (none-in (a .awaited) na (known-awaited a sa)) (none-in (b .awaited) nb (known-awaited b sb)) in
       record {
-        joins = joins-on false (λ _. ap (λ m. m .waits) (p .leaves) ∙ closes a na) (λ _. ap (λ m. m .waits) (q .leaves) ∙ closes b nb);
+        joins = joins-on false (λ _. ap (λ m. m .waits) (p .next) ∙ closes a na) (λ _. ap (λ m. m .waits) (q .next) ∙ closes b nb);
         answers = sym (cond-true w _ _ e ∙ cond-false (anybody (joined w a b .awaited)) _ _ none);
-        leaves = same-meaning _ (closed (joined w a b)) same-inside refl (λ r. same-awaited r ∙ out r) ∙ sym (cond-true w _ _ e ∙ cond-false (anybody (joined w a b .awaited)) _ _ none);
+        next = same-meaning _ (closed (joined w a b)) same-inside refl (λ r. same-awaited r ∙ out r) ∙ sym (cond-true w _ _ e ∙ cond-false (anybody (joined w a b .awaited)) _ _ none);
       }
 
 -- ---- neither answer is the one for no wait

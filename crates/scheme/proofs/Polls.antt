@@ -26,7 +26,7 @@ polled-inside true true m = refl
 polled-inside true false m = refl
 polled-inside false s m = refl
 
-pub inside-stays : (m : Meaning) → on-poll m .leaves .inside ≡ m .inside
+pub inside-stays : (m : Meaning) → on-poll m .next .inside ≡ m .inside
 inside-stays m = polled-inside (m .waits) (anybody (m .awaited)) m
 
 polled-awaited : (w s : Bool) (m : Meaning) (x : ℕ) → (s ≡ false → m .awaited x ≡ false) → cond w (cond s m (closed m)) m .awaited x ≡ m .awaited x
@@ -37,7 +37,7 @@ polled-awaited false s m x q = refl
 pub known-awaited : (m : Meaning) → Sound m → (r : ℕ) → m .awaited r ≡ true → r < 16
 known-awaited m s r t = s .known r (s .within r t)
 
-pub awaited-stay : (m : Meaning) → Sound m → (x : ℕ) → on-poll m .leaves .awaited x ≡ m .awaited x
+pub awaited-stay : (m : Meaning) → Sound m → (x : ℕ) → on-poll m .next .awaited x ≡ m .awaited x
 awaited-stay m s x = polled-awaited (m .waits) (anybody (m .awaited)) m x (λ e. none-in (m .awaited) e (known-awaited m s) x)
 
 polled-closed : (w s : Bool) (m : Meaning) → m .waits ≡ w → s ≡ false → cond w (cond s m (closed m)) m .waits ≡ false
@@ -45,5 +45,5 @@ polled-closed true true m e q = absurd (both-ways true q refl)
 polled-closed true false m e q = refl
 polled-closed false s m e q = e
 
-pub closes : (m : Meaning) → anybody (m .awaited) ≡ false → on-poll m .leaves .waits ≡ false
+pub closes : (m : Meaning) → anybody (m .awaited) ≡ false → on-poll m .next .waits ≡ false
 closes m e = polled-closed (m .waits) (anybody (m .awaited)) m refl e

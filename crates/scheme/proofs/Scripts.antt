@@ -7,7 +7,7 @@ use Rattle.std.proofs.shelf.Lists.{take-more-set, drop-more, take-all, drop-all
 use Rattle.scheme.specs.declared.script.Call.{Call}
 use Rattle.scheme.specs.declared.script.Answer.{Answer}
 use Rattle.scheme.specs.Meaning.{Meaning, Follows}
-use Rattle.scheme.specs.Scripts.{answer-to, left-by, on-call, after, answers}
+use Rattle.scheme.specs.Scripts.{answer-to, after-call, on-call, after, answers}
 
 -- call i is made: the rest goes on from what it left, behind its answer
 pub one-more : {S : Type 0} {V : S → Type 0} {meaning : S → Meaning} {s s′ : S} {a : Answer}
@@ -18,11 +18,11 @@ pub one-more : {S : Type 0} {V : S → Type 0} {meaning : S → Meaning} {s s′
 one-more {meaning = meaning} {s = s} {a = a} calls given i d l k did =
     let rest = drop (i + 1) calls in
     let x = getD calls i d in (
-      ap (λ m. after m rest) (did .leaves) ∙ ap (after (meaning s)) (sym (drop-more calls i d l)),
-      ap (λ m. take (i + 1) (set given i a) ++ answers m rest) (did .leaves)
-          ∙ ap (λ b. take (i + 1) (set given i b) ++ answers (left-by x (meaning s)) rest) (did .answers)
-          ∙ ap (λ xs. xs ++ answers (left-by x (meaning s)) rest) (take-more-set given i (answer-to x (meaning s)) k)
-          ∙ append-assoc (take i given) (answer-to x (meaning s) ∷ []) (answers (left-by x (meaning s)) rest)
+      ap (λ m. after m rest) (did .next) ∙ ap (after (meaning s)) (sym (drop-more calls i d l)),
+      ap (λ m. take (i + 1) (set given i a) ++ answers m rest) (did .next)
+          ∙ ap (λ b. take (i + 1) (set given i b) ++ answers (after-call x (meaning s)) rest) (did .answers)
+          ∙ ap (λ xs. xs ++ answers (after-call x (meaning s)) rest) (take-more-set given i (answer-to x (meaning s)) k)
+          ∙ append-assoc (take i given) (answer-to x (meaning s) ∷ []) (answers (after-call x (meaning s)) rest)
           ∙ ap (λ cs. take i given ++ answers (meaning s) cs) (sym (drop-more calls i d l)),
     )
 

@@ -60,7 +60,7 @@ Visiting r = Since (Enters r) (Leaves r)
 abbrev pub Waiting : History → Type 0
 Waiting = Since Begins Finds-over
 
--- a wait began after older, and newer is what came since: it is open, whatever else happened
+-- the open wait of h: it began after older, and was not found over in newer, which is what came since
 pub record Open (newer older h : History) : Type 0 where
   pub begun : h ≡ newer ++ moment Begin Accepted ∷ older
   pub not-over : ¬ (Any Finds-over newer)

@@ -58,27 +58,26 @@ begun m = record { inside = m .inside; waits = true; awaited = m .inside }
 abbrev pub closed : Meaning → Meaning
 closed m = record { inside = m .inside; waits = false; awaited = nobody }
 
--- ---- what each call answers, and the meaning that it leaves; what is refused leaves what there was
+-- ---- what each call answers, and the next meaning; what is refused changes nothing
 
 pub record Outcome (A : Type 0) : Type 0 where
   pub answer : A
-  pub leaves : Meaning
+  pub next : Meaning
 
 abbrev pub may-enter : ℕ → Meaning → Bool
 may-enter r m = ltb r readers && not (m .inside r)
 
 abbrev pub on-enter : ℕ → Meaning → Outcome Bool
-on-enter r m = record { answer = may-enter r m; leaves = cond (may-enter r m) (entered m r) m }
+on-enter r m = record { answer = may-enter r m; next = cond (may-enter r m) (entered m r) m }
 
 abbrev pub on-leave : ℕ → Meaning → Outcome Bool
-on-leave r m = record { answer = m .inside r; leaves = cond (m .inside r) (left m r) m }
+on-leave r m = record { answer = m .inside r; next = cond (m .inside r) (left m r) m }
 
 abbrev pub on-begin : Meaning → Outcome Bool
-on-begin m = record { answer = not (m .waits); leaves = cond (m .waits) m (begun m) }
+on-begin m = record { answer = not (m .waits); next = cond (m .waits) m (begun m) }
 
--- a value before a call, the value that the call left and its answer: they go by the rule of the call.
--- V says of which values the rule is promised, and the call leaves such a value
+-- a call took one value to another with this answer, as its rule says, and the new value is valid (V) again
 pub record Follows {S A : Type 0} (V : S → Type 0) (meaning : S → Meaning) (rule : Meaning → Outcome A) (before after : S) (answer : A) : Type 0 where
   pub valid : V after
   pub answers : answer ≡ rule (meaning before) .answer
-  pub leaves : meaning after ≡ rule (meaning before) .leaves
+  pub next : meaning after ≡ rule (meaning before) .next

@@ -18,20 +18,20 @@ answer-to (Leave r) m = told (on-leave r m .answer)
 answer-to Begin m = told (on-begin m .answer)
 answer-to Poll m = Polled (on-poll m .answer)
 
-abbrev pub left-by : Call → Meaning → Meaning
-left-by (Enter r) m = on-enter r m .leaves
-left-by (Leave r) m = on-leave r m .leaves
-left-by Begin m = on-begin m .leaves
-left-by Poll m = on-poll m .leaves
+abbrev pub after-call : Call → Meaning → Meaning
+after-call (Enter r) m = on-enter r m .next
+after-call (Leave r) m = on-leave r m .next
+after-call Begin m = on-begin m .next
+after-call Poll m = on-poll m .next
 
 abbrev pub on-call : Call → Meaning → Outcome Answer
-on-call c m = record { answer = answer-to c m; leaves = left-by c m }
+on-call c m = record { answer = answer-to c m; next = after-call c m }
 
 -- the plain meaning after the calls, and its answers to them
 abbrev pub after : Meaning → List Call → Meaning
 after m [] = m
-after m (c ∷ cs) = after (left-by c m) cs
+after m (c ∷ cs) = after (after-call c m) cs
 
 abbrev pub answers : Meaning → List Call → List Answer
 answers m [] = []
-answers m (c ∷ cs) = answer-to c m ∷ answers (left-by c m) cs
+answers m (c ∷ cs) = answer-to c m ∷ answers (after-call c m) cs

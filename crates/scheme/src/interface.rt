@@ -20,10 +20,10 @@ pub trait Scheme: Sized {
     // The readers inside, whether a wait is open, and the readers that it awaits.
     ghost meaning: { Self → Meaning };
 
-    // The values that calls on a new scheme lead to; what the calls promise is promised of these.
+    // Holds of every value that calls on a new scheme lead to; what the calls promise is promised of such values.
     ghost valid: { Self → Type 0 };
 
-    // Only readers 0 to 15 are ever inside, only they are awaited, and only while a wait is open.
+    // Whoever is inside has a number from 0 to 15, whoever is awaited is inside, and nobody is awaited unless a wait is open.
     law sound: { (s : Self) → valid s → Sound (meaning s) };
 
     // No visit is under way, and no wait is open.

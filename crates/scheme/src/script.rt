@@ -35,10 +35,11 @@ fn answer_of(accepted: bool) -> Answer
     }
 }
 
-// Makes one call on a scheme. What is refused leaves it as it was.
+// Makes one call on a scheme. What is refused leaves it as it was, and so does a poll with no wait open.
 pub fn call_on<S: Scheme>(scheme: &mut S, call: Call) -> Answer
     ensures follows { λ a. ⌜ (S·Scheme .valid (now (scheme .entry)) → Follows (S·Scheme .valid) (S·Scheme .meaning) (on-call call) (now (scheme .entry)) (now (scheme .exit)) a) ⌝ }
     ensures refused { λ a. ⌜ (a ≡ Answer.Refused → now (scheme .exit) ≡ now (scheme .entry)) ⌝ }
+    ensures none { λ a. ⌜ (a ≡ Answer.Polled Poll.NoWait → now (scheme .exit) ≡ now (scheme .entry)) ⌝ }
 {
     match call {
         Call::Enter(reader) => answer_of(scheme.enter(reader)),
