@@ -2,7 +2,7 @@
 ghost use mathlib.Core.Path.{_≡_};
 ghost use Rattle.scheme.specs.Scripts.{on-call, told};
 ghost use Rattle.scheme.specs.Runs.{Ran};
-ghost use Rattle.scheme.specs.Meaning.{Follows};
+ghost use Rattle.scheme.specs.Meaning.{Follows, at-start};
 use crate::interface::Poll;
 use crate::interface::PollDebug;
 use crate::interface::PollPartialEq;
@@ -49,16 +49,26 @@ pub fn call_on<S: Scheme>(scheme: &mut S, call: Call) -> Answer
     }
 }
 
-// Makes the calls on a new scheme, one after another: the scheme as they leave it, and their answers.
-pub fn run<S: Scheme, const N: usize>(calls: &[Call; N]) -> (S, [Answer; N])
-    ensures { λ r. ⌜ Ran (S·Scheme .valid) (S·Scheme .meaning) (now (calls .entry)) (r .0) (r .1) ⌝ }
+// Makes the calls, one after another, on a scheme on which none was made yet.
+fn call_all<S: Scheme, const N: usize>(scheme: &mut S, calls: &[Call; N]) -> [Answer; N]
+    requires valid { ⌜ S·Scheme .valid (now scheme) ⌝ }
+    requires new { ⌜ S·Scheme .meaning (now scheme) ≡ at-start ⌝ }
+    ensures { λ r. ⌜ Ran (S·Scheme .valid) (S·Scheme .meaning) (now (calls .entry)) (now (scheme .exit)) r ⌝ }
 {
-    let mut scheme = S::new();
     let mut answers = [Answer::Refused; N];
     // As a slice, since the checker knows the length of one.
     let script: &[Call] = calls;
     for i in 0..N {
-        answers[i] = call_on(&mut scheme, script[i]);
+        answers[i] = call_on(scheme, script[i]);
     }
+    answers
+}
+
+// Runs any list of calls on a new scheme: the scheme as they leave it, and their answers.
+pub fn run<S: Scheme, const N: usize>(calls: &[Call; N]) -> (S, [Answer; N])
+    ensures { λ r. ⌜ Ran (S·Scheme .valid) (S·Scheme .meaning) (now (calls .entry)) (r .0) (r .1) ⌝ }
+{
+    let mut scheme = S::new();
+    let answers = call_all(&mut scheme, calls);
     (scheme, answers)
 }

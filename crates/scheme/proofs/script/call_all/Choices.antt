@@ -3,7 +3,7 @@ use mathlib.Core.List.{_++_}
 use lib.ListN.{length, take, drop}
 use Rattle.scheme.specs.Meaning.{at-start}
 use Rattle.scheme.specs.Scripts.{after, answers}
-use Rattle.scheme.proofs.script.run.Given as given
+use Rattle.scheme.proofs.script.call_all.Given as given
 
 -- what is still to be called goes on from here as from the start, behind the answers so far
 abbrev pub Inv-loop-i : given.InvT-loop-i

@@ -6,14 +6,14 @@ use Rattle.scheme.specs.declared.script.Call.the-variants.{Enter}
 use Rattle.scheme.specs.Scripts.{after, answers}
 use Rattle.scheme.proofs.Scripts.{one-more, all-made}
 use Rattle.scheme.proofs.Histories.{script-lawful}
-use Rattle.scheme.proofs.script.run.Needs as need
+use Rattle.scheme.proofs.script.call_all.Needs as need
 
 pub loop-i-holds : need.loop-i-holds
 loop-i-holds g c =
     let size : length (c .args .calls .now) ≡ g .N = search needs in (
-      c .new-scheme .ensures .valid,
-      ap (λ m. after m (c .args .calls .now)) (c .new-scheme .ensures .means),
-      ap (λ m. answers m (c .args .calls .now)) (c .new-scheme .ensures .means),
+      c .pre .valid,
+      ap (λ m. after m (c .args .calls .now)) (c .pre .new),
+      ap (λ m. answers m (c .args .calls .now)) (c .pre .new),
       length-replicate (g .N) _,
       size,
     )
