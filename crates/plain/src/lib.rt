@@ -1,4 +1,6 @@
 // The plain board: the specification of everything above it, and what holds of every use of it.
+#![tactic(auto)]
+
 ghost use Rattle.plain.specs.Faithful.{AsPlainIsFaithful};
 ghost use Rattle.plain.specs.Flights.{Flights};
 ghost use Rattle.plain.specs.Laws.{EveryUseIsLawful};

@@ -1,4 +1,6 @@
 // Kinds of record: what a waypoint and a parameter are, and how one is made.
+#![tactic(auto)]
+
 mod interface;
 mod kind;
 mod par;

@@ -1,4 +1,6 @@
 // Schemes that tell when the readers have gone.
+#![tactic(auto)]
+
 mod bits;
 mod interface;
 mod pair;
