@@ -19,7 +19,7 @@ loop-i-init g c =
 pub loop-i-preserved : goal.loop-i-preserved
 loop-i-preserved g c =
     let inv = c.loop-i.invariant in
-    let did = c.call-on.ensures.follows inv.0 in
+    let did = c.call_on.ensures.follows inv.0 in
     let so_far = one_more c.args.calls.now c.loop-i.answers c.loop-i.i (Enter 0) (omega (arith, inv.4)) (omega (arith, inv.3)) did in
     (did.valid, so_far.0 ∙ inv.1, so_far.1 ∙ inv.2, length-set _ _ _ ∙ inv.3, inv.4)
 
