@@ -59,13 +59,13 @@ owed_over (Move.earlier o c Need.met) aw aw' x e w = w
 
 module _ {size : ℕ} {q : Pool} {stage rank : ℕ → ℕ} (s : Shaped size q stage rank) where
   begun_somewhere : q.covered ≡ [] → (x : ℕ) → Somewhere q x → Somewhere (covering q) x
-  begun_somewhere e x (Somewhere.on_List c) = Somewhere.on_List c
+  begun_somewhere e x (Somewhere.on_list c) = Somewhere.on_list c
   begun_somewhere e x (Somewhere.in_free i) = Somewhere.in_free i
   begun_somewhere e x (Somewhere.in_due i) = Somewhere.in_covered i
   begun_somewhere e x (Somewhere.in_covered i) = absurd (in_none (subst (In x) e i))
 
   over_somewhere : (x : ℕ) → Somewhere q x → Somewhere (freeing q) x
-  over_somewhere x (Somewhere.on_List c) = Somewhere.on_List c
+  over_somewhere x (Somewhere.on_list c) = Somewhere.on_list c
   over_somewhere x (Somewhere.in_free i) = Somewhere.in_free (in_right q.covered i)
   over_somewhere x (Somewhere.in_due i) = Somewhere.in_due i
   over_somewhere x (Somewhere.in_covered i) = Somewhere.in_free (in_left q.free i)

@@ -111,9 +111,9 @@ module _ {size : ℕ} {q : Pool} {stage rank : ℕ → ℕ} (s : Shaped size q s
   ]
 
   still_somewhere : (x : ℕ) → Somewhere q x → Somewhere q₁ x
-  still_somewhere x (Somewhere.on_List c) = Somewhere.on_List (still_ahead listed_live c)
+  still_somewhere x (Somewhere.on_list c) = Somewhere.on_list (still_ahead listed_live c)
   still_somewhere x (Somewhere.in_free i) = elim (in_cases (subst (In x) fills.free i)) [
-    | inl e ↦ Somewhere.on_List (ahead_to (sym e) new_listed)
+    | inl e ↦ Somewhere.on_list (ahead_to (sym e) new_listed)
     | inr j ↦ Somewhere.in_free j
   ]
   still_somewhere x (Somewhere.in_due i) = Somewhere.in_due i

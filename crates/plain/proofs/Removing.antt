@@ -84,9 +84,9 @@ module _ {size : ℕ} {q : Pool} {stage rank : ℕ → ℕ} (s : Shaped size q s
         omega arith
 
     still_somewhere : (z : ℕ) → Somewhere q z → Somewhere q₁ z
-    still_somewhere z (Somewhere.on_List c) = elim (cases_eq z x) [
+    still_somewhere z (Somewhere.on_list c) = elim (cases_eq z x) [
       | inl e ↦ Somewhere.in_due (In.first e)
-      | inr n ↦ Somewhere.on_List (still_ahead n c)
+      | inr n ↦ Somewhere.on_list (still_ahead n c)
     ]
     still_somewhere z (Somewhere.in_free i) = Somewhere.in_free i
     still_somewhere z (Somewhere.in_due i) = Somewhere.in_due (In.later i)
@@ -300,12 +300,12 @@ module _ {size : ℕ} {q : Pool} {stage rank : ℕ → ℕ} (s : Shaped size q s
         alone z az cz i = not_x az (s.keys_apart z x cz xa (no_old cz) (no_old xa) (sym (key_old z (old_ne cz)) ∙ i ∙ sym ex))
 
     still_somewhere₂ : (z : ℕ) → Somewhere q z → Somewhere q₂ z
-    still_somewhere₂ z (Somewhere.on_List c) = elim (cases_eq z x) [
+    still_somewhere₂ z (Somewhere.on_list c) = elim (cases_eq z x) [
       | inl e ↦ Somewhere.in_due (In.first e)
-      | inr n ↦ Somewhere.on_List (out_of_middle n (into_middle head_live c))
+      | inr n ↦ Somewhere.on_list (out_of_middle n (into_middle head_live c))
     ]
     still_somewhere₂ z (Somewhere.in_free i) = elim (in_cases (subst (In z) fills.free i)) [
-      | inl e ↦ Somewhere.on_List (ahead_to (sym e) new_listed)
+      | inl e ↦ Somewhere.on_list (ahead_to (sym e) new_listed)
       | inr j ↦ Somewhere.in_free j
     ]
     still_somewhere₂ z (Somewhere.in_due i) = Somewhere.in_due (In.later i)
