@@ -1,5 +1,5 @@
 -- A function that is changed at one number. Assumes nothing.
-use Rattle.std.proofs.Common.{◌≡◌, ℕ, eqb, refl}
+use Rattle.std.proofs.Common.{◌≡◌, ℕ, eqb}
 use Rattle.std.proofs.lemmas.Bool.{cond-true, cond-false, eq-eqb, ne_eqb}
 use Rattle.plain.specs.Changed.{changed}
 

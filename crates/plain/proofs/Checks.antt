@@ -1,5 +1,5 @@
 -- What the passing of a call's checks says, check by check; what an accepted making says of the new board. Assumes nothing.
-use Rattle.std.proofs.Common.{◌≡◌, ℕ, zero, ◌<◌, ◌≤◌, Bool, true, false, eqb, ltb, ◌⊎◌, List, [], ◌∷◌, refl, ap, ◌∙◌, inl, inr, arith}
+use Rattle.std.proofs.Common.{◌≡◌, ℕ, ◌<◌, ◌≤◌, false, eqb, ltb, ◌⊎◌, List, [], ◌∷◌, refl, inl, inr, arith}
 use Rattle.std.proofs.lemmas.Bool.{true≢false, or_parts, eqb-false, ltb-false, cond_both}
 use Rattle.scheme.specs.Sets.{apart}
 use Rattle.plain.specs.Pools.{is_empty, head_or_0, tail, Move, under_way}

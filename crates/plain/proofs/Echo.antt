@@ -1,6 +1,6 @@
 -- What the scheme below a board was told is a history of its own (Echo), and the scheme's law of waits holds of it.
 -- So it holds of the board: waits end in time. Assumes nothing.
-use Rattle.std.proofs.Common.{◌≡◌, ℕ, Bool, not, ◌||◌, ◌↔◌, [], ◌∷◌, ◌++◌, sym, refl, ap, ◌∙◌, subst}
+use Rattle.std.proofs.Common.{◌≡◌, ℕ, not, ◌||◌, ◌↔◌, [], ◌∷◌, ◌++◌, sym, refl, ap, ◌∙◌, subst}
 use mathlib.Core.Logic.Iff
 use Rattle.std.proofs.lemmas.Bool.{cond_both}
 use Rattle.scheme.specs.declared.interface.Poll.{Poll}
@@ -20,7 +20,7 @@ use Rattle.plain.specs.Boards.{Board, Area}
 use Rattle.plain.specs.Calls.{Call}
 use Rattle.plain.specs.Plain.{Result, tended, result}
 use Rattle.plain.specs.History.{Moment, moment, History, Run}
-use Rattle.plain.specs.Sightings.{Enters, Leaves, Visiting}
+use Rattle.plain.specs.Sightings.{Leaves, Visiting}
 use Rattle.plain.specs.Waits.{Begins, FindsOver, AllGone, WaitsEndInTime}
 use Rattle.plain.proofs.Checks.{made_of}
 use Rattle.plain.proofs.Events.{Silent, Echoes, Did, did}

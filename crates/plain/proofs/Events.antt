@@ -1,6 +1,6 @@
 -- What each call does as far as visits, removals and waits go: to the scheme's meaning, and to the due and the covered chain (did).
 -- It is told in the scheme's own words, by a call of the scheme. Assumes nothing.
-use Rattle.std.proofs.Common.{◌≡◌, ℕ, Bool, true, false, cond, not, ◌||◌, eqb, ltb, ◌↔◌, List, [], ◌∷◌, length, sym, refl, ap, ◌∙◌, subst, arith}
+use Rattle.std.proofs.Common.{◌≡◌, ℕ, Bool, true, false, not, ◌||◌, eqb, ltb, ◌↔◌, List, [], ◌∷◌, sym, refl, ap, ◌∙◌, subst, arith}
 use Rattle.std.proofs.lemmas.Bool.{both_ways, cond_both, leb-false, lt-ltb, and_from, not-false, not_from_false}
 use Rattle.scheme.specs.declared.interface.Poll.{Poll}
 use Rattle.scheme.specs.declared.interface.Poll.TheVariants.{NoWait, NotYet, Over}
@@ -9,7 +9,7 @@ use Rattle.scheme.specs.declared.script.Call.TheVariants.{Poll as Ask}
 use Rattle.scheme.specs.declared.script.Call.{Call as ToldCall}
 use Rattle.scheme.specs.declared.script.Answer.{Answer as ToldAnswer}
 use Rattle.scheme.specs.declared.script.Answer.TheVariants.{Accepted, Polled}
-use Rattle.scheme.specs.Meaning.{anybody, may_enter, on_begin}
+use Rattle.scheme.specs.Meaning.{may_enter}
 use Rattle.scheme.specs.Polls.{on_poll}
 use Rattle.scheme.specs.Scripts.{told, answer_to, after_call}
 use Rattle.scheme.specs.Histories as below

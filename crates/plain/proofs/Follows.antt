@@ -5,7 +5,6 @@ use Rattle.std.proofs.lemmas.Bool.{true≢false, both_ways, cases_eq, cond-true,
 use Rattle.scheme.specs.declared.interface.Poll.{Poll}
 use Rattle.scheme.specs.declared.interface.Poll.TheVariants.{NoWait, NotYet, Over}
 use Rattle.scheme.specs.Meaning.{Meaning, Sound, anybody, may_enter, entered, left, begun, closed, on_enter, on_leave, on_begin}
-use Rattle.plain.specs.Changed.{changed}
 use Rattle.scheme.specs.Polls.{on_poll}
 use Rattle.scheme.specs.Sets.{none_in}
 use Rattle.plain.proofs.Changed.{changed_at, changed_elsewhere}

@@ -1,6 +1,6 @@
 -- Along every run: the due chain is empty exactly when each removal lies before the start of a wait,
 -- and the due and the covered chain are exactly when each such wait has been found over. So the counts settle. Assumes nothing.
-use Rattle.std.proofs.Common.{◌≡◌, ℕ, zero, suc, ◌+◌, true, false, ◌↔◌, List, [], ◌∷◌, ◌++◌, length, sym, refl, ap, ◌∙◌, subst, arith}
+use Rattle.std.proofs.Common.{◌≡◌, ℕ, ◌↔◌, List, [], ◌∷◌, ◌++◌, length, sym, refl, ap, subst, arith}
 use mathlib.Core.Logic.Iff
 use Rattle.scheme.specs.Histories.{Any}
 use Rattle.scheme.specs.Sets.{apart}

@@ -1,6 +1,6 @@
 -- What holds along every run: the board is fine, what was sighted stands, and the walks are under way as they should.
 -- So the sightings agree and the walks are short, complete and honest, of every run. Assumes nothing.
-use Rattle.std.proofs.Common.{◌≡◌, ℕ, ◌+◌, ◌≤◌, ◌⊎◌, [], ◌∷◌, ◌++◌, sym, ap, subst, arith}
+use Rattle.std.proofs.Common.{◌≡◌, ℕ, [], ◌∷◌, ◌++◌, sym, subst, arith}
 use Rattle.scheme.specs.Histories.{Any}
 use Rattle.scheme.specs.Sets.{apart}
 use Rattle.record.specs.Making.{Making}

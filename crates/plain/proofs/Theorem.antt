@@ -1,11 +1,11 @@
 -- Every use of a board is lawful, at every stop.
 -- And what a running board has to show of one call, so that every use goes on lawfully. Assumes nothing.
-use Rattle.std.proofs.Common.{◌≡◌, ℕ, ◌⊎◌, List, [], ◌∷◌, ◌++◌, sym, refl, ap, ◌∙◌, subst, inl, inr}
+use Rattle.std.proofs.Common.{◌≡◌, ℕ, ◌⊎◌, [], ◌∷◌, ◌++◌, sym, refl, ◌∙◌, subst}
 use Rattle.record.specs.Making.{Making}
 use Rattle.plain.specs.Boards.{Board, Area}
 use Rattle.plain.specs.Calls.{Call, Answer}
 use Rattle.plain.specs.Plain.{Result, make, result}
-use Rattle.plain.specs.History.{Moment, moment, History, Run}
+use Rattle.plain.specs.History.{moment, History, Run}
 use Rattle.plain.specs.Walks.{WalksAreShort}
 use Rattle.plain.specs.Laws.{Always, EveryUseIsLawful}
 use Rattle.plain.specs.Faithful.{LawfulUse, FaithfulMaking, Faithful, AsPlainIsFaithful}

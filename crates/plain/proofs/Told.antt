@@ -3,7 +3,6 @@
 use Rattle.std.proofs.Common.{◌≡◌, ℕ, Bool, true, false, not, ◌||◌, eqb, ◌≢◌, ◌⊎◌, sym, refl, ap, ◌∙◌, subst, inl, inr}
 use Rattle.std.proofs.lemmas.Bool.{both_ways, cases_eq, eqb-true, eqb-false, ne_eqb, cond_both, not-false}
 use Rattle.scheme.specs.declared.interface.Poll.{Poll}
-use Rattle.scheme.specs.Polls.{on_poll}
 use Rattle.scheme.specs.Sets.{apart}
 use Rattle.plain.proofs.Changed.{changed_at, changed_elsewhere}
 use Rattle.record.specs.Making.{Making}

@@ -1,10 +1,10 @@
 -- Worked uses of the plain board: what is called, what is answered, and what is left at the end. Assumes nothing.
-use Rattle.std.specs.Prelude.{◌≡◌, ℕ, List, [], ◌∷◌, replicate, ℤ, pos}
+use Rattle.std.specs.Prelude.{◌≡◌, ℕ, List, [], ◌∷◌, replicate, pos}
 use Rattle.std.proofs.Common.{inl, inr}
 use Rattle.record.specs.Making.{Making}
 use Rattle.record.specs.Ways.{way_making}
 use Rattle.record.specs.Pars.{par_making}
-use Rattle.plain.specs.Boards.{Board, Area, Record, new_board, listed}
+use Rattle.plain.specs.Boards.{Board, Area, new_board, listed}
 use Rattle.plain.specs.Calls.{Call, Answer}
 use Rattle.plain.specs.Calls.{Call.enter, Call.leave, Call.from, Call.step, Call.put, Call.cut, Call.move, Call.finish, Call.tend}
 use Rattle.plain.specs.Calls.{Answer.done, Answer.seen, Answer.found, Answer.end, Answer.placed, Answer.removed, Answer.earlier, Answer.later, Answer.begun, Answer.waiting, Answer.over, Answer.refused}

@@ -1,5 +1,5 @@
 -- What each call of the plain board answers, and the board and the record area that it leaves. Assumes nothing.
-use Rattle.std.specs.Prelude.{ℕ, Bool, cond, not, ◌||◌, ◌⊎◌, length, ◌==◌}
+use Rattle.std.specs.Prelude.{ℕ, cond, not, ◌||◌, ◌⊎◌, length, ◌==◌}
 use Rattle.std.proofs.Common.{inl, inr}
 use Rattle.scheme.specs.declared.interface.Poll.{Poll}
 use Rattle.scheme.specs.declared.interface.Poll.TheVariants.{NoWait, NotYet, Over}

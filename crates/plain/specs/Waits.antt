@@ -1,5 +1,5 @@
 -- Removals and waits: when removed nodes are free again, and when a wait is found over. Assumes nothing.
-use Rattle.std.specs.Prelude.{◌≡◌, ℕ, zero, suc, ◌+◌, Bool, false, not, ◌||◌, ◌↔◌, List, [], ◌∷◌, ◌++◌, length, ℤ, ◌==◌}
+use Rattle.std.specs.Prelude.{◌≡◌, ℕ, suc, Bool, false, not, ◌||◌, ◌↔◌, List, [], ◌∷◌, ◌++◌, length, ℤ, ◌==◌}
 use Rattle.scheme.specs.Counts.{count_below}
 use Rattle.scheme.specs.Histories.{Any}
 use Rattle.plain.specs.Boards.{Board, listed}

@@ -1,21 +1,19 @@
 -- For each wrong board a short use, and the law that does not hold after it. Assumes nothing.
-use Rattle.std.proofs.Common.{◌≡◌, ℕ, ◌≤◌, Bool, true, false, [], ◌∷◌, refl, arith}
+use Rattle.std.proofs.Common.{◌≡◌, ◌≤◌, [], ◌∷◌, refl, arith}
 use Rattle.std.proofs.lemmas.Bool.{false≢true}
 use Rattle.scheme.specs.Meaning.{anybody}
 use Rattle.scheme.specs.Histories.{Any, Since}
 use Rattle.scheme.specs.Sets.{apart}
-use Rattle.plain.specs.Boards.{Board}
-use Rattle.plain.specs.Calls.{Call}
 use Rattle.plain.specs.Calls.{Call.enter, Call.from, Call.step, Call.cut, Call.move, Call.finish, Call.tend}
-use Rattle.plain.specs.History.{Moment, History, Count}
-use Rattle.plain.specs.Sightings.{Sighting, StepsOn, Sights, SightingsAgree}
-use Rattle.plain.specs.Walks.{Starts, Walking, Walked, StepsOnKey, WalksAreShort, WalksAreComplete, WalksAreHonest}
-use Rattle.plain.specs.Waits.{Removes, WaitPassed, counts, CountsSettle, WaitsEndInTime}
+use Rattle.plain.specs.History.{Count}
+use Rattle.plain.specs.Sightings.{StepsOn, Sights, SightingsAgree}
+use Rattle.plain.specs.Walks.{Walking, Walked, WalksAreShort, WalksAreComplete, WalksAreHonest}
+use Rattle.plain.specs.Waits.{WaitPassed, counts, CountsSettle, WaitsEndInTime}
 use Rattle.plain.proofs.Events.{not_removal}
 use Rattle.plain.proofs.Settled.{after_none, after_more}
 use Rattle.wrong_boards.specs.Wrong
 use Rattle.wrong_boards.specs.Breaks.{Breaks, WrongBoardsBreakLaws}
-use Rattle.wrong_boards.proofs.Uses.{Use, new_use, used, breaks, place, none, older, no_visit, visit_older, goes_on, past, past_seen, no_step, other_key, end_no_key}
+use Rattle.wrong_boards.proofs.Uses.{new_use, used, breaks, place, none, older, no_visit, visit_older, goes_on, past, past_seen, no_step, other_key, end_no_key}
 
 -- the wait begins with no visit under way, and the next tend does not find it over
 never_over : Breaks Wrong.never_over (λ b. WaitsEndInTime)

@@ -1,10 +1,6 @@
 -- Which law each wrong board breaks: a use of it after which the law does not hold. Assumes nothing.
-use Rattle.std.specs.Prelude.{◌≡◌, ℕ, List, [], ◌∷◌, replicate, refl}
-use Rattle.std.proofs.Common.{inl}
-use Rattle.plain.specs.Boards.{Board, Area, new_board}
-use Rattle.plain.specs.Calls.{Call}
-use Rattle.plain.specs.Plain.{make}
-use Rattle.plain.specs.History.{Play, Moment, moment, History, Run}
+use Rattle.plain.specs.Boards.{Board, Area}
+use Rattle.plain.specs.History.{Play, History, Run}
 use Rattle.plain.specs.Sightings.{SightingsAgree}
 use Rattle.plain.specs.Walks.{WalksAreShort, WalksAreComplete, WalksAreHonest}
 use Rattle.plain.specs.Waits.{counts, CountsSettle, WaitsEndInTime}

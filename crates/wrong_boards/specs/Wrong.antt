@@ -1,10 +1,10 @@
 -- Boards with one fault each, made from the plain board. Assumes nothing.
-use Rattle.std.specs.Prelude.{ℕ, Bool, cond, not, ◌&&◌, List, [], ◌∷◌, ◌++◌, length, nat_lt}
+use Rattle.std.specs.Prelude.{Bool, cond, not, ◌&&◌, [], ◌++◌, length, nat_lt}
 use Rattle.scheme.specs.Meaning.{Meaning, nobody}
 use Rattle.plain.specs.Changed.{changed}
 use Rattle.record.specs.Pars.{par_making}
-use Rattle.plain.specs.Pools.{Pool, Move, head_or_0, under_way, needs_begin, at_begin, at_over, with_move}
-use Rattle.plain.specs.Boards.{Board, Area, at_rest, with_who, with_pool}
+use Rattle.plain.specs.Pools.{Pool, head_or_0, under_way, needs_begin, at_begin, at_over, with_move}
+use Rattle.plain.specs.Boards.{Board, at_rest, with_who, with_pool}
 use Rattle.plain.specs.Calls.{Call, Answer}
 use Rattle.plain.specs.Refusals.{checks, checked}
 use Rattle.plain.specs.Plain.{Result, result, unchanged, stands}
