@@ -3,96 +3,84 @@ use record::{Par, Record, Way};
 use std::process::Abort;
 use std::test::Fail;
 
-// Four numbers, and the field that is at fault, or 0 where a record is made.
-type Edge = (i32, i32, i32, i32, u8);
+// Four numbers, and the field that is at fault, or `None` where a record is made.
+type Edge = ([i32; 4], Option<u8>);
 
 const WAYS: [Edge; 22] = [
-    (0, 0, 0, 0, 0),
-    (900_000_000, 0, 0, 0, 0),
-    (900_000_001, 0, 0, 0, 1),
-    (-900_000_000, 0, 0, 0, 0),
-    (-900_000_001, 0, 0, 0, 1),
-    (0, 1_800_000_000, 0, 0, 0),
-    (0, 1_800_000_001, 0, 0, 2),
-    (0, -1_800_000_000, 0, 0, 0),
-    (0, -1_800_000_001, 0, 0, 2),
-    (0, 0, -100_000, 0, 0),
-    (0, 0, -100_001, 0, 3),
-    (0, 0, 1_000_000, 0, 0),
-    (0, 0, 1_000_001, 0, 3),
-    (0, 0, 0, -1, 4),
-    (0, 0, 0, 3_000, 0),
-    (0, 0, 0, 3_001, 4),
-    (900_000_000, -1_800_000_000, 1_000_000, 3_000, 0),
+    ([0, 0, 0, 0], None),
+    ([900_000_000, 0, 0, 0], None),
+    ([900_000_001, 0, 0, 0], Some(1)),
+    ([-900_000_000, 0, 0, 0], None),
+    ([-900_000_001, 0, 0, 0], Some(1)),
+    ([0, 1_800_000_000, 0, 0], None),
+    ([0, 1_800_000_001, 0, 0], Some(2)),
+    ([0, -1_800_000_000, 0, 0], None),
+    ([0, -1_800_000_001, 0, 0], Some(2)),
+    ([0, 0, -100_000, 0], None),
+    ([0, 0, -100_001, 0], Some(3)),
+    ([0, 0, 1_000_000, 0], None),
+    ([0, 0, 1_000_001, 0], Some(3)),
+    ([0, 0, 0, -1], Some(4)),
+    ([0, 0, 0, 3_000], None),
+    ([0, 0, 0, 3_001], Some(4)),
+    ([900_000_000, -1_800_000_000, 1_000_000, 3_000], None),
     // Of several fields outside their limits the first is blamed.
-    (900_000_001, 1_800_000_001, 1_000_001, 3_001, 1),
-    (0, 1_800_000_001, 1_000_001, 3_001, 2),
-    (0, 0, -100_001, -1, 3),
-    (2_147_483_647, 0, 0, 0, 1),
-    (-2_147_483_648, 0, 0, 0, 1),
+    ([900_000_001, 1_800_000_001, 1_000_001, 3_001], Some(1)),
+    ([0, 1_800_000_001, 1_000_001, 3_001], Some(2)),
+    ([0, 0, -100_001, -1], Some(3)),
+    ([2_147_483_647, 0, 0, 0], Some(1)),
+    ([-2_147_483_648, 0, 0, 0], Some(1)),
 ];
 
 const PARS: [Edge; 12] = [
-    (5, 5, 5, 0, 0),
-    (6, 0, 5, 0, 1),
-    (-1, 0, 5, 0, 1),
-    (0, 0, 5, 0, 0),
-    (5, 0, 5, 0, 0),
+    ([5, 5, 5, 0], None),
+    ([6, 0, 5, 0], Some(1)),
+    ([-1, 0, 5, 0], Some(1)),
+    ([0, 0, 5, 0], None),
+    ([5, 0, 5, 0], None),
     // With the least above the most no value will do.
-    (5, 6, 4, 0, 1),
-    (6, 6, 4, 0, 1),
-    (4, 6, 4, 0, 1),
-    (-2_147_483_648, -2_147_483_648, 2_147_483_647, 0, 0),
-    (2_147_483_647, -2_147_483_648, 2_147_483_647, 0, 0),
+    ([5, 6, 4, 0], Some(1)),
+    ([6, 6, 4, 0], Some(1)),
+    ([4, 6, 4, 0], Some(1)),
+    ([-2_147_483_648, -2_147_483_648, 2_147_483_647, 0], None),
+    ([2_147_483_647, -2_147_483_648, 2_147_483_647, 0], None),
     // The fourth number is not read.
-    (5, 5, 5, 2_147_483_647, 0),
-    (6, 0, 5, -2_147_483_648, 1),
+    ([5, 5, 5, 2_147_483_647], None),
+    ([6, 0, 5, -2_147_483_648], Some(1)),
 ];
 
-fn fault_of<R: Record>(edge: Edge) -> u8 {
-    match R::make(edge.0, edge.1, edge.2, edge.3) {
-        Ok(_) => 0,
-        Err(fault) => fault.field,
+// Each of the edges is made, or has the fault that it is to have.
+fn check_edges<R: Record>(rt: &impl Abort, edges: &[Edge]) {
+    for (numbers, fault) in edges {
+        assert_eq!(rt; R::make(*numbers).err().map(|found| found.field), *fault);
     }
 }
 
 #[test]
 fn waypoints(rt: HostRuntime) {
-    for edge in &WAYS {
-        assert_eq!(rt; fault_of::<Way>(*edge), edge.4);
-    }
+    check_edges::<Way>(&rt, &WAYS);
 }
 
 #[test]
 fn parameters(rt: HostRuntime) {
-    for edge in &PARS {
-        assert_eq!(rt; fault_of::<Par>(*edge), edge.4);
-    }
+    check_edges::<Par>(&rt, &PARS);
 }
 
 // A record has the numbers that it was made of, each in its place, and no more.
-fn check_fields<R: Record>(rt: &impl Abort, edge: Edge) -> Result<(), Fail> {
-    let numbers = [edge.0, edge.1, edge.2, edge.3];
-    let Ok(it) = R::make(edge.0, edge.1, edge.2, edge.3) else {
-        return Err(Fail::new("not made"));
-    };
-    for i in 0..4 {
-        let wanted = if i < R::field_count() {
-            Some(numbers[i])
-        } else {
-            None
-        };
-        assert_eq!(rt; it.field(i), wanted);
+fn check_fields<R: Record>(rt: &impl Abort, numbers: [i32; 4]) -> Result<(), Fail> {
+    let made = R::make(numbers)?;
+    let own = &numbers[..R::field_count()];
+    for i in 0..=4 {
+        assert_eq!(rt; made.field(i), own.get(i).copied());
     }
-    assert_eq!(rt; it.field(4), None);
     Ok(())
 }
 
 #[test]
 fn fields_are_the_numbers(rt: HostRuntime) -> Result<(), Fail> {
-    check_fields::<Way>(&rt, (1, 2, 3, 4, 0))?;
-    check_fields::<Way>(&rt, (-900_000_000, 1_800_000_000, -100_000, 3_000, 0))?;
-    check_fields::<Par>(&rt, (7, -8, 9, 10, 0))
+    check_fields::<Way>(&rt, [1, 2, 3, 4])?;
+    check_fields::<Way>(&rt, [-900_000_000, 1_800_000_000, -100_000, 3_000])?;
+    check_fields::<Par>(&rt, [7, -8, 9, 10])
 }
 
 #[test]

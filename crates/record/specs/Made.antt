@@ -1,13 +1,8 @@
 -- What making gave, by the fields of the record or the number of the field at fault. Assumes nothing.
 use Rattle.std.specs.Prelude.{ℕ, ◌⊎◌, List, ℤ, Ok, Err, Result}
 use Rattle.std.proofs.Common.{inl, inr}
-use Rattle.record.specs.declared.interface.Fault.{Fault}
+use Rattle.record.specs.declared.fault.Fault.{Fault}
 
 abbrev pub made : {R : Type 0} → (R → List ℤ) → Result R Fault → List ℤ ⊎ ℕ
 made fields (Ok x) = inl (fields x)
 made fields (Err f) = inr f.field
-
--- P holds of the record that making gave, if it gave one
-abbrev pub AllMade : {R : Type 0} → (R → Type 0) → Result R Fault → Type 0
-AllMade P (Ok x) = P x
-AllMade P (Err f) = Unit {0}

@@ -1,26 +1,26 @@
 -- The kind `way`: latitude and longitude in units of 0.0000001 degree, height in cm, speed in cm/s. Assumes nothing.
-use Rattle.std.specs.Prelude.{Bool, List, [], ◌∷◌, ℤ, pos, negsuc}
+use Rattle.std.specs.Prelude.{Bool, List, [], ◌∷◌, ℤ, pos, neg_ℤ}
 use Rattle.record.specs.Making.{Making, Between, lies, judged}
 use Rattle.record.specs.declared.way.Way.{Way}
 
 abbrev pub way_fields : Way → List ℤ
 way_fields w = w.latitude ∷ w.longitude ∷ w.height ∷ w.speed ∷ []
 
--- the ends of the limits; negsuc n is -(n + 1)
-abbrev pub south : ℤ
-south = negsuc 899_999_999
-
+-- the ends of the limits
 abbrev pub north : ℤ
 north = pos 900_000_000
 
-abbrev pub west : ℤ
-west = negsuc 1_799_999_999
+abbrev pub south : ℤ
+south = neg_ℤ north
 
 abbrev pub east : ℤ
 east = pos 1_800_000_000
 
+abbrev pub west : ℤ
+west = neg_ℤ east
+
 abbrev pub lowest : ℤ
-lowest = negsuc 99_999
+lowest = neg_ℤ (pos 100_000)
 
 abbrev pub highest : ℤ
 highest = pos 1_000_000

@@ -1,12 +1,12 @@
 // A parameter: a value between the least and the most that it may be.
 ghost use Rattle.record.specs.declared.kind.Kind.{Kind};
 ghost use Rattle.record.specs.Pars.{par_fields, par_making, ParWithin};
-ghost use Rattle.record.specs.MakingLemmas.{par_sound, par_told, par_limits};
 ghost use Rattle.std.proofs.Common.{rules};
 
-use crate::interface::{Fault, Record};
+use crate::fault::Fault;
+use crate::interface::Record;
 use crate::kind::Kind;
-use crate::range::lies_within;
+use crate::range::checked;
 
 #[derive(Clone, Copy)]
 pub struct Par {
@@ -16,9 +16,13 @@ pub struct Par {
 }
 
 impl Record for Par {
-    ghost kind = { Kind.Par };
+    ghost KIND = { Kind.Par };
 
-    ghost count = { 3 };
+    const KIND: Kind = Kind::Par;
+
+    ghost COUNT = { 3 };
+
+    const COUNT: usize = 3;
 
     ghost fields = { par_fields };
 
@@ -26,43 +30,28 @@ impl Record for Par {
 
     ghost within = { ParWithin };
 
-    const KIND: Kind = Kind::Par;
-
-    const COUNT: usize = 3;
-
     ghost fewest = { Prim.search rules };
 
     ghost most = { Prim.search rules };
 
     ghost full = { Prim.search rules };
 
-    ghost told = { par_told };
+    ghost told = { Prim.search rules };
 
-    ghost sound = { par_sound };
+    ghost sound = { Prim.search rules };
 
-    ghost limits = { par_limits };
+    ghost limits = { Prim.search rules };
 
-    fn make(value: i32, least: i32, most: i32, _unread: i32) -> Result<Par, Fault> {
-        if !lies_within(value, least, most) {
-            return Err(Fault { field: 1 });
-        }
-        Ok(Par { value, least, most })
-    }
-
-    fn own_kind() -> Kind {
-        Self::KIND
-    }
-
-    fn field_count() -> usize {
-        Self::COUNT
+    fn make(numbers: [i32; 4]) -> Result<Par, Fault> {
+        let [value, least, most, _unread] = numbers;
+        Ok(Par {
+            value: checked(value, least..=most, 1)?,
+            least,
+            most,
+        })
     }
 
     fn field(&self, i: usize) -> Option<i32> {
-        match i {
-            0 => Some(self.value),
-            1 => Some(self.least),
-            2 => Some(self.most),
-            _ => None,
-        }
+        [self.value, self.least, self.most].get(i).copied()
     }
 }

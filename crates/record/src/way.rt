@@ -1,12 +1,12 @@
 // A waypoint.
 ghost use Rattle.record.specs.declared.kind.Kind.{Kind};
 ghost use Rattle.record.specs.Ways.{way_fields, way_making, WayWithin};
-ghost use Rattle.record.specs.MakingLemmas.{way_sound, way_told, way_limits};
-ghost use Rattle.std.proofs.Common.{rules};
+ghost use Rattle.std.proofs.Common.{rules, arith};
 
-use crate::interface::{Fault, Record};
+use crate::fault::Fault;
+use crate::interface::Record;
 use crate::kind::Kind;
-use crate::range::lies_within;
+use crate::range::checked;
 
 // The greatest latitude and longitude, either way, in units of 0.0000001 degree; the least and greatest height in cm; the greatest speed in cm/s.
 const LATITUDE: i32 = 900_000_000;
@@ -28,9 +28,13 @@ pub struct Way {
 }
 
 impl Record for Way {
-    ghost kind = { Kind.Way };
+    ghost KIND = { Kind.Way };
 
-    ghost count = { 4 };
+    const KIND: Kind = Kind::Way;
+
+    ghost COUNT = { 4 };
+
+    const COUNT: usize = 4;
 
     ghost fields = { way_fields };
 
@@ -38,58 +42,32 @@ impl Record for Way {
 
     ghost within = { WayWithin };
 
-    const KIND: Kind = Kind::Way;
-
-    const COUNT: usize = 4;
-
     ghost fewest = { Prim.search rules };
 
     ghost most = { Prim.search rules };
 
     ghost full = { Prim.search rules };
 
-    ghost told = { way_told };
+    ghost told = { Prim.search rules };
 
-    ghost sound = { way_sound };
+    // At four fields `Prim.search rules` stops at its limit of case splits.
+    ghost sound = { Prim.grind arith };
 
-    ghost limits = { way_limits };
+    ghost limits = { λ a b c d x e. Prim.grind arith };
 
-    fn make(latitude: i32, longitude: i32, height: i32, speed: i32) -> Result<Way, Fault> {
-        if !lies_within(latitude, -LATITUDE, LATITUDE) {
-            return Err(Fault { field: 1 });
-        }
-        if !lies_within(longitude, -LONGITUDE, LONGITUDE) {
-            return Err(Fault { field: 2 });
-        }
-        if !lies_within(height, LOWEST, HIGHEST) {
-            return Err(Fault { field: 3 });
-        }
-        if !lies_within(speed, 0, FASTEST) {
-            return Err(Fault { field: 4 });
-        }
+    fn make(numbers: [i32; 4]) -> Result<Way, Fault> {
+        let [latitude, longitude, height, speed] = numbers;
         Ok(Way {
-            latitude,
-            longitude,
-            height,
-            speed,
+            latitude: checked(latitude, -LATITUDE..=LATITUDE, 1)?,
+            longitude: checked(longitude, -LONGITUDE..=LONGITUDE, 2)?,
+            height: checked(height, LOWEST..=HIGHEST, 3)?,
+            speed: checked(speed, 0..=FASTEST, 4)?,
         })
     }
 
-    fn own_kind() -> Kind {
-        Self::KIND
-    }
-
-    fn field_count() -> usize {
-        Self::COUNT
-    }
-
     fn field(&self, i: usize) -> Option<i32> {
-        match i {
-            0 => Some(self.latitude),
-            1 => Some(self.longitude),
-            2 => Some(self.height),
-            3 => Some(self.speed),
-            _ => None,
-        }
+        [self.latitude, self.longitude, self.height, self.speed]
+            .get(i)
+            .copied()
     }
 }
