@@ -35,6 +35,7 @@ pub trait Record: Copy {
         ensures gives { made fields result ≡ made_of making numbers }
         ensures within { IfOk result within };
 
+    // The two constants, as functions that no kind writes anew.
     final fn own_kind() -> Kind
         ensures { result ≡ KIND }
     {

@@ -9,6 +9,7 @@ use crate::kind::Kind;
 use crate::range::checked;
 
 // The greatest latitude and longitude, either way, in units of 0.0000001 degree; the least and greatest height in cm; the greatest speed in cm/s.
+// Each end has a constant: for one that holds a range the check says "a call in a constant's value is not supported yet".
 const LATITUDE: i32 = 900_000_000;
 
 const LONGITUDE: i32 = 1_800_000_000;
