@@ -35,13 +35,10 @@ const SCRIPT: [(Call, Answer); CALLS] = [
 ];
 
 fn check_scheme<S: Scheme + Drop>(rt: &impl Abort) {
-    let mut calls = [Call::Poll; CALLS];
-    for i in 0..CALLS {
-        calls[i] = SCRIPT[i].0;
-    }
+    let calls = SCRIPT.map(|(call, _)| call);
     let (_scheme, answers) = run::<S, CALLS>(&calls);
-    for i in 0..CALLS {
-        assert_eq!(rt; answers[i], SCRIPT[i].1);
+    for ((call, expected), answer) in SCRIPT.iter().zip(&answers) {
+        assert_eq!(rt; answer, expected, "{call}");
     }
 }
 

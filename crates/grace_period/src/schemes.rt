@@ -1,8 +1,5 @@
 // One list of calls, run on each scheme.
-ghost use Rattle.std.specs.Prelude.{◌≡◌};
-ghost use Rattle.grace_period.specs.Words.{answer_word};
-
-use scheme::{Answer, Bits, Call, Pair, Phase, Poll, Scheme, run};
+use scheme::{Bits, Call, Pair, Phase, Scheme, run};
 use std::io;
 
 const CALLS: usize = 21;
@@ -32,33 +29,11 @@ const SCRIPT: [Call; CALLS] = [
     Call::Leave(12),
 ];
 
-fn word(answer: Answer) -> &'static str
-    ensures { result.now ≡ answer_word answer }
-{
-    match answer {
-        Answer::Accepted => "accepted",
-        Answer::Refused => "refused",
-        Answer::Polled(Poll::NoWait) => "none",
-        Answer::Polled(Poll::NotYet) => "not yet",
-        Answer::Polled(Poll::Over) => "over",
-    }
-}
-
-fn show_call(rt: &impl Print, call: Call, answer: Answer) -> io::Result<()> {
-    let said = word(answer);
-    match call {
-        Call::Enter(reader) => println!(rt; "  enter {reader}: {said}"),
-        Call::Leave(reader) => println!(rt; "  leave {reader}: {said}"),
-        Call::Begin => println!(rt; "  begin: {said}"),
-        Call::Poll => println!(rt; "  poll: {said}"),
-    }
-}
-
 fn show<S: Scheme + Drop>(rt: &impl Print, name: &str) -> io::Result<()> {
     println!(rt; "{name}")?;
     let (_scheme, answers) = run::<S, CALLS>(&SCRIPT);
-    for i in 0..CALLS {
-        show_call(rt, SCRIPT[i], answers[i])?;
+    for (call, answer) in SCRIPT.iter().zip(&answers) {
+        println!(rt; "  {call}: {answer}")?;
     }
     Ok(())
 }

@@ -2,3 +2,5 @@ pub mod Polls
 pub mod Pairs
 pub mod Scripts
 pub mod Histories
+pub mod Words
+pub mod Phases

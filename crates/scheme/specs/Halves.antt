@@ -1,9 +1,9 @@
 -- Two schemes side by side: readers 0 to 7 are the first's, 8 to 15 the second's 0 to 7. Assumes nothing.
-use Rattle.std.specs.Prelude.{◌≡◌, ℕ, ◌-◌, ◌<◌, Bool, true, false, cond, nat_lt}
+use Rattle.std.specs.Prelude.{◌≡◌, ℕ, ◌-◌, ◌<◌, Bool, true, false, if◌then◌else◌, nat_lt}
 use Rattle.scheme.specs.Meaning.{Meaning}
 
 abbrev pub side_by_side : (ℕ → Bool) → (ℕ → Bool) → ℕ → Bool
-side_by_side f g x = cond (nat_lt x 8) (f x) (g (x - 8))
+side_by_side f g x = if nat_lt x 8 then f x else g (x - 8)
 
 -- the meaning of both, where w says whether the wait of the two together is open
 abbrev pub joined : Bool → Meaning → Meaning → Meaning

@@ -1,11 +1,13 @@
 pub mod Meaning
+pub mod PhaseNumbers
+pub mod Readers
 pub mod Polls
 pub mod ReaderSets
 pub mod Counts
 pub mod Visits
-pub mod Tallies
 pub mod Halves
 pub mod Scripts
+pub mod Texts
 pub mod Histories
 pub mod Runs
 pub mod Words

@@ -1,5 +1,5 @@
 -- What a scheme means, by sets of readers, and what each call answers and leaves. Assumes nothing.
-use Rattle.std.specs.Prelude.{◌≡◌, ℕ, zero, suc, ◌<◌, Bool, true, false, cond, not, ◌&&◌, ◌||◌, ◌==◌, nat_lt}
+use Rattle.std.specs.Prelude.{◌≡◌, ℕ, zero, suc, ◌<◌, Bool, true, false, if◌then◌else◌, not, ◌&&◌, ◌||◌, ◌==◌, nat_lt}
 
 -- there are readers 0 to 15
 abbrev pub readers : ℕ
@@ -27,7 +27,7 @@ nobody x = false
 
 -- the set f, but reader r is in it or not as b says
 abbrev pub updated : (ℕ → Bool) → ℕ → Bool → ℕ → Bool
-updated f r b x = cond (x == r) b (f x)
+updated f r b x = if x == r then b else f x
 
 -- whether one of the numbers below n is in f
 abbrev pub anybody_below : (ℕ → Bool) → ℕ → Bool
@@ -65,16 +65,15 @@ abbrev pub may_enter : ℕ → Meaning → Bool
 may_enter r m = nat_lt r readers && not (m.inside r)
 
 abbrev pub on_enter : ℕ → Meaning → Outcome Bool
-on_enter r m = record { answer = may_enter r m; next = cond (may_enter r m) (entered m r) m }
+on_enter r m = record { answer = may_enter r m; next = if may_enter r m then entered m r else m }
 
 abbrev pub on_leave : ℕ → Meaning → Outcome Bool
-on_leave r m = record { answer = m.inside r; next = cond (m.inside r) (left m r) m }
+on_leave r m = record { answer = m.inside r; next = if m.inside r then left m r else m }
 
 abbrev pub on_begin : Meaning → Outcome Bool
-on_begin m = record { answer = not m.waits; next = cond m.waits m (begun m) }
+on_begin m = record { answer = not m.waits; next = if m.waits then m else begun m }
 
--- a call took one value to another with this answer, as its rule says, and the new value is valid (V) again
-pub record Follows {S A : Type 0} (V : S → Type 0) (meaning : S → Meaning) (rule : Meaning → Outcome A) (before after : S) (answer : A) : Type 0 where
-  pub valid : V after
+-- a call took one value to another with this answer, as its rule says
+pub record Follows {S A : Type 0} (meaning : S → Meaning) (rule : Meaning → Outcome A) (before after : S) (answer : A) : Type 0 where
   pub answers : answer ≡ (rule (meaning before)).answer
   pub next : meaning after ≡ (rule (meaning before)).next

@@ -6,8 +6,7 @@ use Rattle.scheme.specs.Meaning.{Meaning, at_start}
 use Rattle.scheme.specs.Scripts.{after, answers}
 use Rattle.scheme.specs.Histories.{recorded, Lawful}
 
-pub record Ran {S : Type 0} (V : S → Type 0) (meaning : S → Meaning) (calls : List Call) (scheme : S) (given : List Answer) : Type 0 where
-  pub valid : V scheme
+pub record Ran {S : Type 0} (meaning : S → Meaning) (calls : List Call) (scheme : S) (given : List Answer) : Type 0 where
   -- the scheme means what the plain meaning is after the same calls, and answered as it does
   pub means : meaning scheme ≡ after at_start calls
   pub answered : given ≡ answers at_start calls

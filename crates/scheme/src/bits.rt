@@ -1,70 +1,69 @@
-// Two sets of sixteen bits: the readers inside, and those that the open wait awaits.
-ghost use Rattle.std.specs.Prelude.{◌≡◌, ℕ, true, false};
-ghost use Rattle.scheme.specs.ReaderSets.{members};
-ghost use Rattle.scheme.specs.Words.{bits_known};
+// Two sets of sixteen bits: the readers inside, and while a wait is open those that it awaits.
+ghost use Rattle.std.specs.Prelude.{◌≡◌, ℕ, is_some, true};
+ghost use Rattle.scheme.specs.ReaderSets.{awaited_by, members};
+ghost use Rattle.scheme.specs.Words.{bits_known, quiet_without};
 
-use crate::interface::{Poll, READERS, Scheme};
+use crate::interface::{Poll, Scheme};
+use crate::reader::Reader;
 use crate::reader_set::ReaderSet;
 
 #[derive(Drop)]
 pub struct Bits {
     inside: ReaderSet,
-    waits: bool,
-    awaited: ReaderSet,
-    ghost within: { (r : ℕ) → members awaited r ≡ true → members inside r ≡ true },
-    ghost quiet: { (r : ℕ) → waits ≡ false → members awaited r ≡ false },
+    // The readers that the open wait awaits, or none if no wait is open.
+    wait: Option<ReaderSet>,
+    ghost within: { (r : ℕ) → awaited_by wait r ≡ true → members inside r ≡ true },
 }
 
 impl Scheme for Bits {
-    ghost meaning = { λ s. record { inside = members s.inside; waits = s.waits; awaited = members s.awaited } };
+    ghost meaning = { λ s. record { inside = members s.inside; waits = is_some s.wait; awaited = awaited_by s.wait } };
 
-    // Every value will do, since the type says what holds of it.
-    ghost valid = { λ _. Unit {0} };
-
-    ghost sound = { λ s _. record { known = bits_known s.inside.bits; within = s.within; quiet = s.quiet } };
+    ghost sound = { λ s. record { known = bits_known s.inside.bits; within = s.within; quiet = quiet_without s.wait } };
 
     fn new() -> Bits {
         Bits {
             inside: ReaderSet::empty(),
-            waits: false,
-            awaited: ReaderSet::empty(),
+            wait: None,
         }
     }
 
     fn enter(&mut self, reader: u32) -> bool {
-        if reader >= READERS || self.inside.contains(reader) {
-            return false;
+        match Reader::try_from(reader) {
+            Ok(reader) => self.inside.insert(reader),
+            Err(_) => false,
         }
-        self.inside = self.inside.with(reader);
-        true
     }
 
+    #[tactic(auto, using(crate::specs::Words::none_high))]
     fn leave(&mut self, reader: u32) -> bool {
-        if !self.inside.contains(reader) {
+        let Ok(reader) = Reader::try_from(reader) else {
+            return false;
+        };
+        if !self.inside.remove(reader) {
             return false;
         }
-        self.inside = self.inside.without(reader);
-        self.awaited = self.awaited.without(reader);
+        if let Some(awaited) = &mut self.wait {
+            awaited.remove(reader);
+        }
         true
     }
 
     fn begin(&mut self) -> bool {
-        if self.waits {
+        if self.wait.is_some() {
             return false;
         }
-        self.waits = true;
-        self.awaited = self.inside;
+        self.wait = Some(self.inside);
         true
     }
 
     fn poll(&mut self) -> Poll {
-        if !self.waits {
-            return Poll::NoWait;
+        match self.wait {
+            None => Poll::NoWait,
+            Some(awaited) if !awaited.is_empty() => Poll::NotYet,
+            Some(_) => {
+                self.wait = None;
+                Poll::Over
+            }
         }
-        if !self.awaited.is_empty() {
-            return Poll::NotYet;
-        }
-        self.waits = false;
-        Poll::Over
     }
 }

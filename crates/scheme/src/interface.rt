@@ -15,40 +15,37 @@ pub enum Poll {
 }
 
 // A scheme tells the one task that changes the list when the readers have gone.
+// Accepted or refused is a `bool`, as from `insert` of Rust's sets: there is one way to be refused and no value beside it, so a `Result<(), Refused>` would say no more.
 pub trait Scheme: Sized {
     // The readers inside, whether a wait is open, and the readers that it awaits.
     ghost meaning: { Self → Meaning };
 
-    // Holds of every value that calls on a new scheme lead to; what the calls promise is promised of such values.
-    ghost valid: { Self → Type 0 };
-
     // No visit is under way, and no wait is open.
     fn new() -> Self
-        ensures valid { valid result }
-        ensures means { meaning result ≡ at_start };
+        ensures { meaning result ≡ at_start };
 
     // A visit starts. Accepted for readers 0 to 15 that are outside, and for no other; what is refused leaves the scheme as it was.
     fn enter(&mut self, reader: u32) -> bool
-        ensures follows { valid self.old → Follows valid meaning (on_enter reader) self.old self.new result }
+        ensures follows { Follows meaning (on_enter reader) self.old self.new result }
         ensures refused { result ≡ false → self.new ≡ self.old };
 
     // The visit ends, and nobody waits for it any more. Accepted for readers inside, and for no other.
     fn leave(&mut self, reader: u32) -> bool
-        ensures follows { valid self.old → Follows valid meaning (on_leave reader) self.old self.new result }
+        ensures follows { Follows meaning (on_leave reader) self.old self.new result }
         ensures refused { result ≡ false → self.new ≡ self.old };
 
     // A wait starts, for every visit that is under way. Accepted unless one is open.
     fn begin(&mut self) -> bool
-        ensures follows { valid self.old → Follows valid meaning on_begin self.old self.new result }
+        ensures follows { Follows meaning on_begin self.old self.new result }
         ensures refused { result ≡ false → self.new ≡ self.old };
 
     // Asks whether the wait is over, and closes it if so. With no wait open it leaves the scheme as it was.
     fn poll(&mut self) -> Poll
-        ensures follows { valid self.old → Follows valid meaning on_poll self.old self.new result }
+        ensures follows { Follows meaning on_poll self.old self.new result }
         ensures none { result ≡ Poll.NoWait → self.new ≡ self.old };
 
     // Whoever is inside has a number from 0 to 15, whoever is awaited is inside, and nobody is awaited unless a wait is open.
-    ghost sound: { (s : Self) → valid s → Sound (meaning s) };
+    ghost sound: { (s : Self) → Sound (meaning s) };
 }
 
 impl Poll {
@@ -56,9 +53,6 @@ impl Poll {
     pub fn is_not_yet(self) -> bool
         ensures { result ≡ says_not_yet self }
     {
-        match self {
-            Poll::NotYet => true,
-            _ => false,
-        }
+        self == Poll::NotYet
     }
 }

@@ -5,10 +5,11 @@ mod bits;
 mod interface;
 mod pair;
 mod phase;
+mod phase_number;
+mod reader;
 mod reader_set;
 mod script;
-mod tally;
-mod visit;
+mod texts;
 mod visits;
 
 pub use bits::Bits;

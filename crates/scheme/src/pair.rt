@@ -13,12 +13,11 @@ pub struct Pair<A: Scheme, B: Scheme> {
     second: B,
     // One half's wait may be over before the other's, so the pair knows by itself whether its wait is open.
     waits: bool,
+    ghost joins: { Joins waits (A.meaning first) (B.meaning second) },
 }
 
 impl<A: Scheme, B: Scheme> Scheme for Pair<A, B> {
-    ghost meaning = { λ s. joined s.waits (A.Scheme.meaning s.first) (B.Scheme.meaning s.second) };
-
-    ghost valid = { λ s. A.Scheme.valid s.first × B.Scheme.valid s.second × Joins s.waits (A.Scheme.meaning s.first) (B.Scheme.meaning s.second) };
+    ghost meaning = { λ s. joined s.waits (A.meaning s.first) (B.meaning s.second) };
 
     ghost sound = { Prim.search rules };
 
@@ -30,23 +29,20 @@ impl<A: Scheme, B: Scheme> Scheme for Pair<A, B> {
         }
     }
 
+    // `leave` goes the same ways as `enter`. No closure or reference serves both, since the two schemes have two types.
     fn enter(&mut self, reader: u32) -> bool {
-        if reader < HALF {
-            self.first.enter(reader)
-        } else if reader < READERS {
-            self.second.enter(reader - HALF)
-        } else {
-            false
+        match reader {
+            0..HALF => self.first.enter(reader),
+            HALF..READERS => self.second.enter(reader - HALF),
+            _ => false,
         }
     }
 
     fn leave(&mut self, reader: u32) -> bool {
-        if reader < HALF {
-            self.first.leave(reader)
-        } else if reader < READERS {
-            self.second.leave(reader - HALF)
-        } else {
-            false
+        match reader {
+            0..HALF => self.first.leave(reader),
+            HALF..READERS => self.second.leave(reader - HALF),
+            _ => false,
         }
     }
 
@@ -55,8 +51,8 @@ impl<A: Scheme, B: Scheme> Scheme for Pair<A, B> {
             return false;
         }
         // Neither half has a wait open, so both accept.
-        let _ = self.first.begin();
-        let _ = self.second.begin();
+        self.first.begin();
+        self.second.begin();
         self.waits = true;
         true
     }
@@ -65,9 +61,10 @@ impl<A: Scheme, B: Scheme> Scheme for Pair<A, B> {
         if !self.waits {
             return Poll::NoWait;
         }
-        let first_waits = self.first.poll().is_not_yet();
-        let second_waits = self.second.poll().is_not_yet();
-        if first_waits || second_waits {
+        let first = self.first.poll();
+        let second = self.second.poll();
+        let still_waits = first.is_not_yet() || second.is_not_yet();
+        if still_waits {
             return Poll::NotYet;
         }
         self.waits = false;

@@ -1,9 +1,10 @@
 // A set of readers in sixteen bits: reader r is in it where bit r is 1.
-ghost use Rattle.std.specs.Prelude.{◌≡◌, ◌<◌, true, false, not};
-ghost use Rattle.scheme.specs.Meaning.{anybody, nobody, readers, updated};
+// No `impl Model`: contracts see sets as functions, and a function cannot be its `Value` ("A function has no code: take a list in its place").
+ghost use Rattle.std.specs.Prelude.{◌≡◌, false, not, true};
+ghost use Rattle.scheme.specs.Meaning.{anybody, nobody, updated};
 ghost use Rattle.scheme.specs.ReaderSets.{members};
 
-use crate::interface::READERS;
+use crate::reader::Reader;
 
 #[derive(Clone, Copy)]
 pub struct ReaderSet {
@@ -11,40 +12,49 @@ pub struct ReaderSet {
 }
 
 impl ReaderSet {
+    #[tactic(auto, using(crate::proofs::Words::no_bit))]
     pub fn empty() -> ReaderSet
         ensures { members result ≡ nobody }
     {
         ReaderSet { bits: 0 }
     }
 
-    // Whether the reader is in the set; no reader past the last one is.
-    pub fn contains(self, reader: u32) -> bool
-        ensures answer { result ≡ members self reader }
-        ensures known { result ≡ true → reader < readers }
+    #[tactic(auto, using(crate::proofs::Words::bit_read))]
+    pub fn contains(self, reader: Reader) -> bool
+        ensures { result ≡ members self reader.number }
     {
-        reader < READERS && (self.bits >> reader) & 1 == 1
+        (self.bits >> reader.number) & 1 == 1
     }
 
-    // The set and this reader.
-    pub fn with(self, reader: u32) -> ReaderSet
-        requires { reader < readers }
-        ensures { members result ≡ updated (members self) reader true }
+    // Puts the reader in. Says whether it was not in already.
+    #[tactic(auto, using(crate::proofs::Words::bit_set))]
+    pub fn insert(&mut self, reader: Reader) -> bool
+        ensures answer { result ≡ not (members self.old reader.number) }
+        ensures put { members self.new ≡ updated (members self.old) reader.number true }
+        ensures kept { result ≡ false → self.new ≡ self.old }
     {
-        ReaderSet {
-            bits: self.bits | (1 << reader),
+        if self.contains(reader) {
+            return false;
         }
+        self.bits |= 1 << reader.number;
+        true
     }
 
-    // The set but for this reader.
-    pub fn without(self, reader: u32) -> ReaderSet
-        requires { reader < readers }
-        ensures { members result ≡ updated (members self) reader false }
+    // Takes the reader out. Says whether it was in.
+    #[tactic(auto, using(crate::proofs::Words::bit_cleared))]
+    pub fn remove(&mut self, reader: Reader) -> bool
+        ensures answer { result ≡ members self.old reader.number }
+        ensures out { members self.new ≡ updated (members self.old) reader.number false }
+        ensures kept { result ≡ false → self.new ≡ self.old }
     {
-        ReaderSet {
-            bits: self.bits & !(1 << reader),
+        if !self.contains(reader) {
+            return false;
         }
+        self.bits &= !(1 << reader.number);
+        true
     }
 
+    #[tactic(auto, using(crate::proofs::Words::empty_word, crate::proofs::Words::no_bit))]
     pub fn is_empty(self) -> bool
         ensures answer { result ≡ not (anybody (members self)) }
         ensures empty { result ≡ true → members self ≡ nobody }

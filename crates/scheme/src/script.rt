@@ -23,48 +23,60 @@ pub enum Answer {
     Polled(Poll),
 }
 
-fn answer_of(accepted: bool) -> Answer
-    ensures { result ≡ told accepted }
-{
-    if accepted {
-        Answer::Accepted
-    } else {
-        Answer::Refused
+impl From<bool> for Answer {
+    ghost from_gives = { λ accepted answer. answer ≡ told accepted };
+
+    fn from(accepted: bool) -> Answer {
+        if accepted {
+            Answer::Accepted
+        } else {
+            Answer::Refused
+        }
+    }
+}
+
+impl From<Poll> for Answer {
+    ghost use Rattle.scheme.specs.declared.script.Answer.{Answer};
+
+    ghost from_gives = { λ poll answer. answer ≡ Answer.Polled poll };
+
+    fn from(poll: Poll) -> Answer {
+        Answer::Polled(poll)
     }
 }
 
 // Makes one call on a scheme. What is refused leaves it as it was, and so does a poll with no wait open.
 pub fn call_on<S: Scheme>(scheme: &mut S, call: Call) -> Answer
-    ensures follows { S.Scheme.valid scheme.old → Follows S.Scheme.valid S.Scheme.meaning (on_call call) scheme.old scheme.new result }
+    ensures follows { Follows S.meaning (on_call call) scheme.old scheme.new result }
     ensures refused { result ≡ Answer.Refused → scheme.new ≡ scheme.old }
     ensures none { result ≡ Answer.Polled Poll.NoWait → scheme.new ≡ scheme.old }
 {
+    // No closures in place of calls: a call is a value, which histories keep and tests list.
     match call {
-        Call::Enter(reader) => answer_of(scheme.enter(reader)),
-        Call::Leave(reader) => answer_of(scheme.leave(reader)),
-        Call::Begin => answer_of(scheme.begin()),
-        Call::Poll => Answer::Polled(scheme.poll()),
+        Call::Enter(reader) => scheme.enter(reader).into(),
+        Call::Leave(reader) => scheme.leave(reader).into(),
+        Call::Begin => scheme.begin().into(),
+        Call::Poll => scheme.poll().into(),
     }
 }
 
 // Makes the calls, one after another, on a scheme on which none was made yet.
+#[tactic(auto, using(crate::proofs::Scripts::one_more, crate::proofs::Scripts::all_made))]
 fn call_all<S: Scheme, const N: usize>(scheme: &mut S, calls: &[Call; N]) -> [Answer; N]
-    requires valid { S.Scheme.valid scheme.old }
-    requires new { S.Scheme.meaning scheme.old ≡ at_start }
-    ensures { Ran S.Scheme.valid S.Scheme.meaning calls.now scheme.new result }
+    requires { S.meaning scheme.old ≡ at_start }
+    ensures { Ran S.meaning calls.now scheme.new result }
 {
     let mut answers = [Answer::Refused; N];
-    // As a slice, since the checker knows the length of one.
-    let script: &[Call] = calls;
-    for i in 0..N {
-        answers[i] = call_on(scheme, script[i]);
+    // No `zip` with `iter_mut()`, after which a proof knows how many answers there are and not what they are.
+    for (i, call) in calls.iter().enumerate() {
+        answers[i] = call_on(scheme, *call);
     }
     answers
 }
 
-// Runs any list of calls on a new scheme: the scheme as they leave it, and their answers.
+// Runs any list of calls on a new scheme: the scheme as they leave it, and their answers. Arrays, since there is no heap.
 pub fn run<S: Scheme, const N: usize>(calls: &[Call; N]) -> (S, [Answer; N])
-    ensures { Ran S.Scheme.valid S.Scheme.meaning calls.now result.0 result.1 }
+    ensures { Ran S.meaning calls.now result.0 result.1 }
 {
     let mut scheme = S::new();
     let answers = call_all(&mut scheme, calls);

@@ -1,84 +1,85 @@
-// The visits of all readers, and one count for each phase.
-ghost use Rattle.std.specs.Prelude.{◌≡◌, ◌<◌, Bool, true, false, not, length};
-ghost use Rattle.scheme.specs.Meaning.{anybody, nobody, readers, updated};
+// The visits of all readers, and for each phase the count of those under it.
+ghost use Rattle.std.specs.Prelude.{◌≡◌, false, is_some, length, not, slice_index, true};
+ghost use Rattle.scheme.specs.declared.phase_number.PhaseNumber.{PhaseNumber};
 ghost use Rattle.scheme.specs.Counts.{number};
-ghost use Rattle.scheme.specs.Visits.{same, under, visiting};
-ghost use Rattle.scheme.specs.Tallies.{tally};
+ghost use Rattle.scheme.specs.Meaning.{anybody, nobody, readers, updated};
+ghost use Rattle.scheme.specs.PhaseNumbers.{index_of, other, same};
+ghost use Rattle.scheme.specs.Visits.{under, visiting};
 
 use crate::interface::READERS;
-use crate::tally::Tally;
-use crate::visit::Visit;
+use crate::phase_number::PhaseNumber;
+use crate::reader::Reader;
 
-// The table has a place for each reader.
+// The table has a place for each reader. A constant is made by `as`, since it may call no `From`.
 const PLACES: usize = READERS as usize;
 
+// No `impl Model`: its view would leave the counts out of what "the whole scheme stays as it was" says of `Phase`.
 #[derive(Drop)]
 pub struct Visits {
-    table: [Visit; PLACES],
-    counts: Tally,
+    // The phase that each reader took as it entered, or none for one that is outside. An array, since there is no heap.
+    table: [Option<PhaseNumber>; PLACES],
+    counts: [u8; 2],
     ghost sized: { length table ≡ readers },
+    ghost two: { length counts ≡ 2 },
     // A phase's count tells how many are inside who entered under it.
-    ghost counted: { (p : Bool) → tally counts p ≡ number (under table p) },
+    ghost counted: { (p : PhaseNumber) → slice_index counts (index_of p) ≡ number (under table p) },
 }
 
 impl Visits {
     // All readers are outside.
+    #[tactic(auto, using(crate::proofs::Phases::none_visiting, crate::proofs::Phases::none_under, crate::specs::CountsLemmas::number_nobody))]
     pub fn none() -> Visits
         ensures inside { visiting result.table ≡ nobody }
-        ensures phases { (p : Bool) → under result.table p ≡ nobody }
+        ensures phases { (p : PhaseNumber) → under result.table p ≡ nobody }
     {
         Visits {
-            table: [Visit::Outside; PLACES],
-            counts: Tally::new(),
+            table: [None; PLACES],
+            counts: [0; 2],
         }
     }
 
-    // Whether the reader is inside.
-    pub fn contains(&self, reader: u32) -> bool
-        ensures answer { result ≡ visiting self.now.table reader }
-        ensures known { result ≡ true → reader < readers }
+    // A visit of the reader begins under the phase, unless it is inside already. Says whether it began.
+    #[tactic(auto, using(crate::proofs::Phases::visiting_set, crate::proofs::Phases::entered_under, crate::proofs::Phases::room_left), unfolding(crate::specs::Visits::visiting))]
+    pub fn enter(&mut self, reader: Reader, phase: PhaseNumber) -> bool
+        ensures answer { result ≡ not (visiting self.old.table reader.number) }
+        ensures inside { result ≡ true → visiting self.new.table ≡ updated (visiting self.old.table) reader.number true }
+        ensures phases { result ≡ true → (p : PhaseNumber) → under self.new.table p ≡ updated (under self.old.table p) reader.number (same phase p) }
+        ensures kept { result ≡ false → self.new ≡ self.old }
     {
-        if reader >= READERS {
+        let place = reader.number as usize;
+        let visit = self.table[place];
+        if visit.is_some() {
             return false;
         }
-        let visit = self.table[reader as usize];
-        match visit {
-            Visit::Outside => false,
-            Visit::Under(_) => true,
-        }
+        self.table[place] = Some(phase);
+        self.counts[usize::from(phase)] += 1;
+        true
     }
 
-    // A visit of a reader that is outside begins under the phase.
-    pub fn enter(&mut self, reader: u32, phase: bool)
-        requires low { reader < readers }
-        requires outside { visiting self.old.table reader ≡ false }
-        ensures inside { visiting self.new.table ≡ updated (visiting self.old.table) reader true }
-        ensures phases { (p : Bool) → under self.new.table p ≡ updated (under self.old.table p) reader (same phase p) }
+    // The visit of the reader ends, if it is inside, and its phase has one reader less. Says whether one ended.
+    #[tactic(auto, using(crate::proofs::Phases::visiting_set, crate::proofs::Phases::left_under, crate::proofs::Phases::some_counted), unfolding(crate::specs::Visits::visiting))]
+    pub fn leave(&mut self, reader: Reader) -> bool
+        ensures answer { result ≡ visiting self.old.table reader.number }
+        ensures inside { result ≡ true → visiting self.new.table ≡ updated (visiting self.old.table) reader.number false }
+        ensures phases { result ≡ true → (p : PhaseNumber) → under self.new.table p ≡ updated (under self.old.table p) reader.number false }
+        ensures kept { result ≡ false → self.new ≡ self.old }
     {
-        self.counts = self.counts.one_more(phase);
-        self.table[reader as usize] = Visit::Under(phase);
-    }
-
-    // The visit of a reader that is inside ends, and its phase has one reader less.
-    pub fn leave(&mut self, reader: u32)
-        requires low { reader < readers }
-        requires inside { visiting self.old.table reader ≡ true }
-        ensures inside { visiting self.new.table ≡ updated (visiting self.old.table) reader false }
-        ensures phases { (p : Bool) → under self.new.table p ≡ updated (under self.old.table p) reader false }
-    {
-        let visit = self.table[reader as usize];
-        if let Visit::Under(phase) = visit {
-            self.counts = self.counts.one_less(phase);
-            self.table[reader as usize] = Visit::Outside;
-        }
+        let place = reader.number as usize;
+        let Some(phase) = self.table[place] else {
+            return false;
+        };
+        self.table[place] = None;
+        self.counts[usize::from(phase)] -= 1;
+        true
     }
 
     // Whether a reader is inside that entered under the phase; if not, all entered under the other.
-    pub fn any_under(&self, phase: bool) -> bool
+    #[tactic(auto, using(crate::proofs::Phases::count_tells, crate::proofs::Phases::nobody_under, crate::proofs::Phases::others_under))]
+    pub fn any_under(&self, phase: PhaseNumber) -> bool
         ensures answer { result ≡ anybody (under self.now.table phase) }
         ensures empty { result ≡ false → under self.now.table phase ≡ nobody }
-        ensures others { result ≡ false → under self.now.table (not phase) ≡ visiting self.now.table }
+        ensures others { result ≡ false → under self.now.table (other phase) ≡ visiting self.now.table }
     {
-        self.counts.of(phase) > 0
+        self.counts[usize::from(phase)] > 0
     }
 }

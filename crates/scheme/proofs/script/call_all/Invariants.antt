@@ -7,8 +7,8 @@ use Rattle.scheme.proofs.script.call_all.Given as goal
 abbrev pub invariant-loop-i : goal.invariant-loop-i
 invariant-loop-i g l =
     let m = g.S.Scheme.meaning l.scheme in
-    g.S.Scheme.valid l.scheme
-    × (after m (drop l.i l.calls) ≡ after at_start l.calls)
-    × (take l.i l.answers ++ answers m (drop l.i l.calls) ≡ answers at_start l.calls)
-    × (length l.answers ≡ g.row.N)
-    × (length l.calls ≡ g.row.N)
+    record {
+      goes_on : after m (drop l.i l.calls) ≡ after at_start l.calls;
+      answered : take l.i l.answers ++ answers m (drop l.i l.calls) ≡ answers at_start l.calls;
+      long : length l.answers ≡ g.row.N;
+    }
