@@ -1,7 +1,6 @@
 -- What the passing of a call's checks says, check by check; what an accepted making says of the new board. Assumes nothing.
 use Rattle.std.proofs.Common.{◌≡◌, ℕ, ◌<◌, ◌≤◌, false, eqb, ltb, ◌⊎◌, List, [], ◌∷◌, refl, inl, inr, arith}
 use Rattle.std.proofs.lemmas.Bool.{true≢false, or_parts, eqb-false, ltb-false, cond_both}
-use Rattle.scheme.specs.Sets.{apart}
 use Rattle.plain.specs.Pools.{is_empty, head_or_0, tail, Move, under_way}
 use Rattle.plain.specs.Boards.{Board, new_board}
 use Rattle.plain.specs.Refusals.{Check, checked, making_checks}
@@ -39,4 +38,4 @@ made_of m n s {b} = checked_both (making_checks m n s) (inl (new_board m n s)) (
     let few = ltb-false 16 m (or_parts (eqb m 0) (ltb 16 m) cs.0).1 in
     let not_0 = eqb-false s 0 cs.1.1.0 in
     (cc, omega arith, omega arith))
-    (λ number field q. absurd (apart (cc)))
+    (λ number field q. cc)

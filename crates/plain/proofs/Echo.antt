@@ -13,7 +13,6 @@ use Rattle.scheme.specs.Polls.{on_poll}
 use Rattle.scheme.specs.Histories.{Any, Since}
 use Rattle.scheme.specs.Histories as below
 use Rattle.scheme.proofs.Histories.{Runs, poll_right}
-use Rattle.scheme.specs.Sets.{apart}
 use Rattle.record.specs.Making.{Making}
 use Rattle.plain.specs.Pools.{is_empty, needs_begin}
 use Rattle.plain.specs.Boards.{Board, Area}
@@ -115,9 +114,9 @@ heard_by making (Run.called {b = b} {area = a} run c) = hears (heard_by making r
 -- tend finds the wait over when the poll says so
 tend_finds : (b : Board) (a : Area) (said : Poll) → FindsOver (moment Call.tend (tended b a said)) ↔ (◌≡◌ {A = ToldAnswer} (Polled said) (Polled Over))
 tend_finds b a NoWait = cond_both (not (is_empty b.pool.due) || needs_begin b.pool.move) _ _ (λ (res : Result). FindsOver (moment Call.tend res) ↔ (◌≡◌ {A = ToldAnswer} (Polled NoWait) (Polled Over)))
-    (λ g. ((λ e. absurd (let q = e.said in apart (cc))), (λ e. absurd (apart (cc)))))
-    (λ g. ((λ e. absurd (let q = e.said in apart (cc))), (λ e. absurd (apart (cc)))))
-tend_finds b a NotYet = ((λ e. absurd (let q = e.said in apart (cc))), (λ e. absurd (apart (cc))))
+    (λ g. ((λ e. cc), (λ e. cc)))
+    (λ g. ((λ e. cc), (λ e. cc)))
+tend_finds b a NotYet = ((λ e. cc), (λ e. cc))
 tend_finds b a Over = ((λ e. refl), (λ e. record { count = _; asked = refl; said = refl }))
 
 module _ (making : Making) {b : Board} {a : Area} (start : Moment) (newer older : History) where

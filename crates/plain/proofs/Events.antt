@@ -13,7 +13,6 @@ use Rattle.scheme.specs.Meaning.{may_enter}
 use Rattle.scheme.specs.Polls.{on_poll}
 use Rattle.scheme.specs.Scripts.{told, answer_to, after_call}
 use Rattle.scheme.specs.Histories as below
-use Rattle.scheme.specs.Sets.{apart}
 use Rattle.record.specs.Making.{Making}
 use Rattle.plain.specs.Pools.{Pool, is_empty, needs_begin}
 use Rattle.plain.specs.Boards.{Board, Area, is_wanted}
@@ -116,19 +115,19 @@ not_removal {m} keeps (Removes.by_finish n s e q) = both_ways (removing m.call) 
 -- ---- refused calls
 
 refused_removes_not : {m : Moment} {n k : ℕ} → m.answer ≡ Answer.refused n k → Removes m → ⊥
-refused_removes_not a (Removes.by_cut k n s e q) = apart (cc)
-refused_removes_not a (Removes.by_swap k v w x y n s e q) = apart (cc)
-refused_removes_not a (Removes.by_finish n s e q) = apart (cc)
+refused_removes_not a (Removes.by_cut k n s e q) = cc
+refused_removes_not a (Removes.by_swap k v w x y n s e q) = cc
+refused_removes_not a (Removes.by_finish n s e q) = cc
 
 did_refused : (b : Board) (a : Area) (c : Call) (n k : ℕ) → Did b (moment c (unchanged b a (Answer.refused n k)))
 did_refused b a c n k = Did.nothing (record { silent = silent; who = refl }) (refused_removes_not refl) (record { due = refl; covered = refl })
   where
     silent : Silent (moment c (unchanged b a (Answer.refused n k)))
     silent = record {
-      no_enter = λ r e. let q = e.1 in apart (cc);
-      no_leave = λ r e. let q = e.1 in apart (cc);
-      no_begin = λ e. let q = e.1 in apart (cc);
-      no_over = λ e. let q = e.said in apart (cc);
+      no_enter = λ r e. cc;
+      no_leave = λ r e. cc;
+      no_begin = λ e. cc;
+      no_over = λ e. cc;
     }
 
 -- ---- visits
@@ -136,42 +135,42 @@ did_refused b a c n k = Did.nothing (record { silent = silent; who = refl }) (re
 enter_echoes : {r : ℕ} {d : Board} {a : Area} → Echoes (record { call = Call.enter r; answer = Answer.done; board = d; area = a }) (below.moment (Enter r) Accepted)
 enter_echoes = record {
   enters = λ u. ((λ e. let q = e.0 in cc), (λ e. (cc, refl)));
-  leaves = λ u. ((λ e. absurd (let q = e.0 in apart (cc))), (λ e. absurd (apart (cc))));
-  begins = ((λ e. absurd (let q = e.0 in apart (cc))), (λ e. absurd (apart (cc))));
-  overs = ((λ e. absurd (let q = e.asked in apart (cc))), (λ e. absurd (apart (cc))));
+  leaves = λ u. ((λ e. cc), (λ e. cc));
+  begins = ((λ e. cc), (λ e. cc));
+  overs = ((λ e. cc), (λ e. cc));
 }
 
 leave_echoes : {r : ℕ} {d : Board} {a : Area} → Echoes (record { call = Call.leave r; answer = Answer.done; board = d; area = a }) (below.moment (Leave r) Accepted)
 leave_echoes = record {
-  enters = λ u. ((λ e. absurd (let q = e.0 in apart (cc))), (λ e. absurd (apart (cc))));
+  enters = λ u. ((λ e. cc), (λ e. cc));
   leaves = λ u. ((λ e. let q = e.0 in cc), (λ e. (cc, refl)));
-  begins = ((λ e. absurd (let q = e.0 in apart (cc))), (λ e. absurd (apart (cc))));
-  overs = ((λ e. absurd (let q = e.asked in apart (cc))), (λ e. absurd (apart (cc))));
+  begins = ((λ e. cc), (λ e. cc));
+  overs = ((λ e. cc), (λ e. cc));
 }
 
 -- ---- waits
 
 begin_echoes : {d : Board} {a : Area} → Echoes (record { call = Call.tend; answer = Answer.begun; board = d; area = a }) (below.moment Begin Accepted)
 begin_echoes = record {
-  enters = λ u. ((λ e. absurd (let q = e.0 in apart (cc))), (λ e. absurd (apart (cc))));
-  leaves = λ u. ((λ e. absurd (let q = e.0 in apart (cc))), (λ e. absurd (apart (cc))));
+  enters = λ u. ((λ e. cc), (λ e. cc));
+  leaves = λ u. ((λ e. cc), (λ e. cc));
   begins = ((λ e. refl), (λ e. (refl, refl)));
-  overs = ((λ e. absurd (let q = e.said in apart (cc))), (λ e. absurd (apart (cc))));
+  overs = ((λ e. cc), (λ e. cc));
 }
 
 over_echoes : {n : ℕ} {d : Board} {a : Area} → Echoes (record { call = Call.tend; answer = Answer.over n; board = d; area = a }) (below.moment Ask (Polled Over))
 over_echoes {n} = record {
-  enters = λ u. ((λ e. absurd (let q = e.0 in apart (cc))), (λ e. absurd (apart (cc))));
-  leaves = λ u. ((λ e. absurd (let q = e.0 in apart (cc))), (λ e. absurd (apart (cc))));
-  begins = ((λ e. absurd (let q = e.1 in apart (cc))), (λ e. absurd (apart (cc))));
+  enters = λ u. ((λ e. cc), (λ e. cc));
+  leaves = λ u. ((λ e. cc), (λ e. cc));
+  begins = ((λ e. cc), (λ e. cc));
   overs = ((λ e. refl), (λ e. record { count = n; asked = refl; said = refl }));
 }
 
 -- a tend that answers neither begun nor over
 tend_silent : {b : Board} {a : Area} (w : Answer) → ¬ (w ≡ Answer.begun) → ((n : ℕ) → ¬ (w ≡ Answer.over n)) → Silent (moment Call.tend (unchanged b a w))
 tend_silent w nb no_over = record {
-  no_enter = λ r e. let q = e.0 in apart (cc);
-  no_leave = λ r e. let q = e.0 in apart (cc);
+  no_enter = λ r e. cc;
+  no_leave = λ r e. cc;
   no_begin = λ e. nb e.1;
   no_over = λ e. no_over e.count e.said;
 }
@@ -183,12 +182,12 @@ module _ {b : Board} {stage rank : ℕ → ℕ} (f : Fine b stage rank) (a : Are
   tend_did : (said : Poll) → (on_poll b.who).answer ≡ said → (said ≡ NoWait → b.who.waits ≡ false) → Did b (moment Call.tend (tended b a said))
   tend_did NoWait e shut = cond_both (not (is_empty b.pool.due) || needs_begin b.pool.move) _ _ (λ (res : Result). Did b (moment Call.tend res))
       (λ g. Did.wait_begins (record { echoes = answered begin_echoes (ap (λ (w : Bool). told (not w)) (shut refl)); who = refl }) (refl, refl) (shut refl) (record { due = refl; covered = refl }))
-      (λ g. Did.nothing (record { silent = tend_silent Answer.idle (λ q. apart (cc)) (λ n q. apart (cc)); who = refl }) (not_removal refl) (record { due = refl; covered = refl }))
-  tend_did NotYet e shut = Did.nothing (record { silent = tend_silent Answer.waiting (λ q. apart (cc)) (λ n q. apart (cc)); who = refl }) (not_removal refl) (record { due = refl; covered = refl })
+      (λ g. Did.nothing (record { silent = tend_silent Answer.idle (λ q. cc) (λ n q. cc); who = refl }) (not_removal refl) (record { due = refl; covered = refl }))
+  tend_did NotYet e shut = Did.nothing (record { silent = tend_silent Answer.waiting (λ q. cc) (λ n q. cc); who = refl }) (not_removal refl) (record { due = refl; covered = refl })
   tend_did Over e shut = Did.wait_ends (record { echoes = answered over_echoes (ap Polled e); who = refl }) (record { count = _; asked = refl; said = refl }) (record { due = refl; covered = refl })
 
   no_wait : (said : Poll) → (on_poll b.who).answer ≡ said → said ≡ NoWait → b.who.waits ≡ false
-  no_wait said e n = poll_cases b.who (λ (p : Poll). p ≡ NoWait → b.who.waits ≡ false) (λ w q. w) (λ w g q. absurd (apart (cc))) (λ w g q. absurd (apart (cc))) (e ∙ n)
+  no_wait said e n = poll_cases b.who (λ (p : Poll). p ≡ NoWait → b.who.waits ≡ false) (λ w q. w) (λ w g q. cc) (λ w g q. cc) (e ∙ n)
 
   -- a call of which the scheme is not told, and that removes nothing
   quiet : (c : Call) (res : Result) → telling c ≡ false → removing c ≡ false → res.board.who ≡ b.who → res.board.pool.due ≡ b.pool.due → res.board.pool.covered ≡ b.pool.covered → Did b (moment c res)
@@ -209,10 +208,10 @@ module _ {b : Board} {stage rank : ℕ → ℕ} (f : Fine b stage rank) (a : Are
       let few = f.few in
       let known = leb-false b.readers r passed.0 in
       let may : may_enter r b.who ≡ true = and_from (ltb r 16) (not (b.who.inside r)) (lt-ltb r 16 (omega arith)) (not_from_false (b.who.inside r) passed.1.0) in
-      visit_did (Call.enter r) _ (Enter r) (record { echoes = answered enter_echoes (ap told may); who = refl }) (λ e. apart (cc)) refl refl
+      visit_did (Call.enter r) _ (Enter r) (record { echoes = answered enter_echoes (ap told may); who = refl }) (λ e. cc) refl refl
   did_accepted (Call.leave r) passed =
       let inside : b.who.inside r ≡ true = not-false (b.who.inside r) passed.1.0 in
-      visit_did (Call.leave r) _ (Leave r) (record { echoes = answered leave_echoes (ap told inside); who = refl }) (λ e. apart (cc)) refl refl
+      visit_did (Call.leave r) _ (Leave r) (record { echoes = answered leave_echoes (ap told inside); who = refl }) (λ e. cc) refl refl
   did_accepted (Call.step r) passed = step_did r _
   did_accepted (Call.look r) passed = quiet (Call.look r) _ refl refl refl refl refl
   did_accepted (Call.from r k) passed = quiet (Call.from r k) _ refl refl refl refl refl

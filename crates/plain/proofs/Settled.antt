@@ -3,7 +3,6 @@
 use Rattle.std.proofs.Common.{◌≡◌, ℕ, ◌↔◌, List, [], ◌∷◌, ◌++◌, length, sym, refl, ap, subst, arith}
 use mathlib.Core.Logic.Iff
 use Rattle.scheme.specs.Histories.{Any}
-use Rattle.scheme.specs.Sets.{apart}
 use Rattle.record.specs.Making.{Making}
 use Rattle.plain.specs.Boards.{Board, Area}
 use Rattle.plain.specs.Plain.{result}
@@ -93,17 +92,17 @@ record Chained (h : History) (due covered : List ℕ) : Type 0 where
   settled : ((due ≡ []) × (covered ≡ [])) ↔ Settled h
 
 begins_removes_not : {m : Moment} → Begins m → Removes m → ⊥
-begins_removes_not k (Removes.by_cut n s t e q) = let p = k.0 in apart (cc)
-begins_removes_not k (Removes.by_swap n v w x y s t e q) = let p = k.0 in apart (cc)
-begins_removes_not k (Removes.by_finish s t e q) = let p = k.0 in apart (cc)
+begins_removes_not k (Removes.by_cut n s t e q) = cc
+begins_removes_not k (Removes.by_swap n v w x y s t e q) = cc
+begins_removes_not k (Removes.by_finish s t e q) = cc
 
 over_removes_not : {m : Moment} → FindsOver m → Removes m → ⊥
-over_removes_not k (Removes.by_cut n s t e q) = let p = k.asked in apart (cc)
-over_removes_not k (Removes.by_swap n v w x y s t e q) = let p = k.asked in apart (cc)
-over_removes_not k (Removes.by_finish s t e q) = let p = k.asked in apart (cc)
+over_removes_not k (Removes.by_cut n s t e q) = cc
+over_removes_not k (Removes.by_swap n v w x y s t e q) = cc
+over_removes_not k (Removes.by_finish s t e q) = cc
 
 begins_over_not : {m : Moment} → Begins m → ¬ (FindsOver m)
-begins_over_not k o = let p = k.1 in let q = o.said in apart (cc)
+begins_over_not k o = cc
 
 module _ {h : History} {m : Moment} {due covered : List ℕ} (i : Chained h due covered) where
   chained_kept : ¬ (Removes m) → ¬ (Begins m) → ¬ (FindsOver m) → Chained (m ∷ h) due covered
@@ -111,8 +110,8 @@ module _ {h : History} {m : Moment} {due covered : List ℕ} (i : Chained h due 
 
   chained_removal : (x : ℕ) → Removes m → Chained (m ∷ h) (x ∷ due) covered
   chained_removal x r = record {
-    begun = ((λ e. absurd (apart (cc))), (λ k. absurd (no_any (after_newest (Any Begins) r k))));
-    settled = ((λ e. absurd (let q = e.0 in apart (cc))), (λ k. absurd (no_passed (after_newest WaitPassed r k))));
+    begun = ((λ e. cc), (λ k. absurd (no_any (after_newest (Any Begins) r k))));
+    settled = ((λ e. cc), (λ k. absurd (no_passed (after_newest WaitPassed r k))));
   }
 
   chained_begins : Begins m → covered ≡ [] → Chained (m ∷ h) [] due

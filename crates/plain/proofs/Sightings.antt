@@ -2,7 +2,6 @@
 -- So the sightings of a visit agree. Assumes nothing.
 use Rattle.std.proofs.Common.{◌≡◌, ℕ, Bool, true, ◌≢◌, ◌∷◌, sym, ap, ◌∙◌, inl, inr, arith}
 use Rattle.scheme.specs.Histories.{Since}
-use Rattle.scheme.specs.Sets.{apart}
 use Rattle.plain.specs.Pools.{Pool, link_of}
 use Rattle.plain.specs.Boards.{Board, Area, record_at}
 use Rattle.plain.specs.History.{Moment, History}
@@ -56,8 +55,8 @@ module _ {b : Board} {a : Area} {stage rank : ℕ → ℕ} {m : Moment} (f : Fin
 
   -- who leaves, sights nothing by it
   sights_stays : {r : ℕ} {x : Sighting} → Sights r x m → ¬ (Leaves r m)
-  sights_stays (Sights.by_step t) l = let q = steps_call t in let p = l.0 in apart (cc)
-  sights_stays (Sights.by_aside w n s k v e q y) l = let p = l.0 in apart (cc)
+  sights_stays (Sights.by_step t) l = let q = steps_call t in cc
+  sights_stays (Sights.by_aside w n s k v e q y) l = cc
 
   pub still_stands : {h : History} (r : ℕ) (x : Sighting) → (Sighted r x h → Stands b a stage r x) → Sighted r x (m ∷ h) → Stands m.board m.area n.stage' r x
   still_stands r x g (Since.starts s) = stands_on r x (sights_stays s) (stands_newly r x (t.beholds r x s).0)

@@ -2,7 +2,6 @@
 -- So the sightings agree and the walks are short, complete and honest, of every run. Assumes nothing.
 use Rattle.std.proofs.Common.{◌≡◌, ℕ, [], ◌∷◌, ◌++◌, sym, subst, arith}
 use Rattle.scheme.specs.Histories.{Any}
-use Rattle.scheme.specs.Sets.{apart}
 use Rattle.record.specs.Making.{Making}
 use Rattle.plain.specs.Boards.{Board, Area}
 use Rattle.plain.specs.Plain.{result}
@@ -32,7 +31,7 @@ pub same_older : {m n : Moment} {g h : History} → ◌≡◌ {A = History} (m �
 same_older e = cc
 
 pub no_moment : {m : Moment} {h : History} → ◌≡◌ {A = History} [] (m ∷ h) → ⊥
-no_moment e = apart (cc)
+no_moment e = cc
 
 -- ---- one call more
 

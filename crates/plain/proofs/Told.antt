@@ -3,7 +3,6 @@
 use Rattle.std.proofs.Common.{◌≡◌, ℕ, Bool, true, false, not, ◌||◌, eqb, ◌≢◌, ◌⊎◌, sym, refl, ap, ◌∙◌, subst, inl, inr}
 use Rattle.std.proofs.lemmas.Bool.{both_ways, cases_eq, eqb-true, eqb-false, ne_eqb, cond_both, not-false}
 use Rattle.scheme.specs.declared.interface.Poll.{Poll}
-use Rattle.scheme.specs.Sets.{apart}
 use Rattle.plain.proofs.Changed.{changed_at, changed_elsewhere}
 use Rattle.record.specs.Making.{Making}
 use Rattle.plain.specs.Pools.{link_of, is_empty, needs_begin}
@@ -85,19 +84,19 @@ told_silent b a m silent same = record {
 -- ---- refused calls
 
 refused_on : {r n k : ℕ} {m : Moment} {x : Sighting} → m.answer ≡ Answer.refused n k → StepsOn r m x → ⊥
-refused_on e (StepsOn.by_seen n s k c q) = apart (cc)
-refused_on e (StepsOn.by_found n s k c q) = apart (cc)
+refused_on e (StepsOn.by_seen n s k c q) = cc
+refused_on e (StepsOn.by_found n s k c q) = cc
 
 refused_sights : {r n k : ℕ} {m : Moment} {x : Sighting} → m.answer ≡ Answer.refused n k → Sights r x m → ⊥
 refused_sights e (Sights.by_step t) = refused_on e t
-refused_sights e (Sights.by_aside w n s k v c q x) = apart (cc)
+refused_sights e (Sights.by_aside w n s k v c q x) = cc
 
 told_refused : (b : Board) (a : Area) (c : Call) (n k : ℕ) → Told b a (moment c (unchanged b a (Answer.refused n k)))
 told_refused b a c n k = record {
   beholds = λ r x t. absurd (refused_sights refl t);
   treads = λ r x t. absurd (refused_on refl t);
-  ends = λ r t. absurd (let q = t.1 in apart (cc));
-  begins = λ r t. absurd (let q = t.granted in apart (cc));
+  ends = λ r t. cc;
+  begins = λ r t. cc;
   keeps = λ r i ns nl ne no_step. refl;
   steps = λ r. inr ((λ x t. refused_on refl t), (λ t. absurd (t.granted n k refl)));
 }
@@ -113,9 +112,9 @@ module _ {b : Board} {stage rank : ℕ → ℕ} (f : Fine b stage rank) (a : Are
 
   told_from : (making : Making) (r k : ℕ) → b.who.inside r ≡ true → Told b a (moment (Call.from r k) (accepted making b a (Call.from r k)))
   told_from making r k i = record {
-    beholds = λ u x t. absurd (elim (sights_call t) [ inl e ↦ apart (cc) | inr e ↦ let q = e.1 in apart (cc) ]);
-    treads = λ u x t. absurd (let q = steps_call t in apart (cc));
-    ends = λ u t. absurd (let q = t.0 in apart (cc));
+    beholds = λ u x t. absurd (elim (sights_call t) [ inl e ↦ cc | inr e ↦ cc ]);
+    treads = λ u x t. cc (steps_call t);
+    ends = λ u t. cc;
     begins = λ u t.
         let q = t.asked in
         let e : r ≡ u = cc in (
@@ -123,7 +122,7 @@ module _ {b : Board} {stage rank : ℕ → ℕ} (f : Fine b stage rank) (a : Are
           subst (λ (v : ℕ). ((with_slot r (record { walk = Walk.for_key k; place = 0 }) b).slots v).place ≡ 0) e (slot_there r (record { walk = Walk.for_key k; place = 0 })),
         );
     keeps = λ u iu ns nl ne no_step. slot_else r u (record { walk = Walk.for_key k; place = 0 }) (λ e. ns (record { wanted = k; asked = ap (λ (v : ℕ). Call.from v k) (sym e); granted = refl }));
-    steps = λ u. inr ((λ x t. let q = steps_call t in apart (cc)), (λ t. absurd (let q = t.asked in apart (cc))));
+    steps = λ u. inr ((λ x t. cc (steps_call t)), (λ t. cc));
   }
 
   -- ---- a step
@@ -133,18 +132,18 @@ module _ {b : Board} {stage rank : ℕ → ℕ} (f : Fine b stage rank) (a : Are
     beholds = λ u x t. absurd (not_sighted t);
     treads = λ u x t. absurd (not_on t);
     ends = λ u t. let q = t.0 in let e : r ≡ u = cc in subst (λ (v : ℕ). link_of b.pool (b.slots v).place ≡ 0) e z;
-    begins = λ u t. absurd (let q = t.asked in apart (cc));
+    begins = λ u t. cc;
     keeps = λ u iu ns nl ne no_step. slot_else r u at_rest (λ e. ne (ap Call.step (sym e), refl));
     steps = λ u. inr ((λ x t. not_on t), (λ t. (t.asked, refl)));
   }
     where
       not_on : {u : ℕ} {x : Sighting} → StepsOn u (record { call = Call.step r; answer = Answer.end; board = with_slot r at_rest b; area = a }) x → ⊥
-      not_on (StepsOn.by_seen n s k e q) = apart (cc)
-      not_on (StepsOn.by_found n s k e q) = apart (cc)
+      not_on (StepsOn.by_seen n s k e q) = cc
+      not_on (StepsOn.by_found n s k e q) = cc
 
       not_sighted : {u : ℕ} {x : Sighting} → Sights u x (record { call = Call.step r; answer = Answer.end; board = with_slot r at_rest b; area = a }) → ⊥
       not_sighted (Sights.by_step t) = not_on t
-      not_sighted (Sights.by_aside w n s k v e q x) = apart (cc)
+      not_sighted (Sights.by_aside w n s k v e q x) = cc
 
   -- the step goes to the node z; the answer w is seen or found, and tells just this
   module _ (r : ℕ) (i : b.who.inside r ≡ true) (s : Slot) (w : Answer)
@@ -167,7 +166,7 @@ module _ {b : Board} {stage rank : ℕ → ℕ} (f : Fine b stage rank) (a : Are
 
       by_step : {u : ℕ} {x : Sighting} → Sights u x m → Beholds b a u x
       by_step {u} {x} (Sights.by_step t) = beheld u x t
-      by_step (Sights.by_aside k n t l v e q x) = absurd (apart (cc))
+      by_step (Sights.by_aside k n t l v e q x) = cc
 
       told_on : Told b a (record { call = Call.step r; answer = w; board = with_slot r s b; area = a })
       told_on = record {
@@ -178,7 +177,7 @@ module _ {b : Board} {stage rank : ℕ → ℕ} (f : Fine b stage rank) (a : Are
             subst (λ (v : ℕ). (link_of b.pool (b.slots v).place ≡ x.node) × (((with_slot r s b).slots v).place ≡ x.node)) o.0
             (node, slot_there r s ∙ there ∙ node);
         ends = λ u t. absurd (not_end t.1);
-        begins = λ u t. absurd (let q = t.asked in apart (cc));
+        begins = λ u t. cc;
         keeps = λ u iu ns nl ne' no_step. slot_else r u s (λ e. no_step x₀ (subst (λ (v : ℕ). StepsOn v m x₀) (sym e) on));
         steps = λ u. elim (cases_eq r u) [
           | inl e ↦ inl (x₀, subst (λ (v : ℕ). StepsOn v m x₀) e on)
@@ -188,10 +187,10 @@ module _ {b : Board} {stage rank : ℕ → ℕ} (f : Fine b stage rank) (a : Are
 
   only_seen : {r n s k : ℕ} {d : Board} (u : ℕ) (x : Sighting) → StepsOn u (record { call = Call.step r; answer = Answer.seen n s k; board = d; area = a }) x → (r ≡ u) × (sighting n s k a ≡ x)
   only_seen u x (StepsOn.by_seen n' s' k' e q) = (cc, cc)
-  only_seen u x (StepsOn.by_found n' s' k' e q) = absurd (apart (cc))
+  only_seen u x (StepsOn.by_found n' s' k' e q) = cc
 
   only_found : {r n s k : ℕ} {d : Board} (u : ℕ) (x : Sighting) → StepsOn u (record { call = Call.step r; answer = Answer.found n s k; board = d; area = a }) x → (r ≡ u) × (sighting n s k a ≡ x)
-  only_found u x (StepsOn.by_seen n' s' k' e q) = absurd (apart (cc))
+  only_found u x (StepsOn.by_seen n' s' k' e q) = cc
   only_found u x (StepsOn.by_found n' s' k' e q) = (cc, cc)
 
   told_step : (making : Making) (r : ℕ) → Passed (checks making b a (Call.step r)) → Told b a (moment (Call.step r) (accepted making b a (Call.step r)))
@@ -201,8 +200,8 @@ module _ {b : Board} {stage rank : ℕ → ℕ} (f : Fine b stage rank) (a : Are
       cond_both (eqb z 0) _ _ (λ (res : Result). Told b a (moment (Call.step r) res))
       (λ w. told_end r (eqb-true z 0 w))
       (λ w. cond_both (is_wanted (b.slots r).walk (b.pool.key z)) _ _ (λ (res : Result). Told b a (moment (Call.step r) res))
-      (λ v. told_on r i (record { walk = Walk.none; place = z }) (Answer.found z (b.pool.stamp z) (b.pool.key z)) refl (eqb-false z 0 w) (StepsOn.by_found _ _ _ refl refl) only_found (λ e. apart (cc)))
-      (λ v. told_on r i (record { walk = (b.slots r).walk; place = z }) (Answer.seen z (b.pool.stamp z) (b.pool.key z)) refl (eqb-false z 0 w) (StepsOn.by_seen _ _ _ refl refl) only_seen (λ e. apart (cc))))
+      (λ v. told_on r i (record { walk = Walk.none; place = z }) (Answer.found z (b.pool.stamp z) (b.pool.key z)) refl (eqb-false z 0 w) (StepsOn.by_found _ _ _ refl refl) only_found (λ e. cc))
+      (λ v. told_on r i (record { walk = (b.slots r).walk; place = z }) (Answer.seen z (b.pool.stamp z) (b.pool.key z)) refl (eqb-false z 0 w) (StepsOn.by_seen _ _ _ refl refl) only_seen (λ e. cc)))
 
   -- ---- a look aside
 
@@ -220,19 +219,19 @@ module _ {b : Board} {stage rank : ℕ → ℕ} (f : Fine b stage rank) (a : Are
       beside : (w : Answer) → ((u : ℕ) (y : Sighting) → Sights u y (moment (Call.aside r k) (unchanged b a w)) → Beholds b a u y) → Told b a (moment (Call.aside r k) (unchanged b a w))
       beside w sighted = record {
         beholds = λ u y t. (sighted u y t, refl);
-        treads = λ u y t. absurd (let q = steps_call t in apart (cc));
-        ends = λ u t. absurd (let q = t.0 in apart (cc));
-        begins = λ u t. absurd (let q = t.asked in apart (cc));
+        treads = λ u y t. cc (steps_call t);
+        ends = λ u t. cc;
+        begins = λ u t. cc;
         keeps = λ u iu ns nl ne no_step. refl;
-        steps = λ u. inr ((λ y t. let q = steps_call t in apart (cc)), (λ t. absurd (let q = t.asked in apart (cc))));
+        steps = λ u. inr ((λ y t. cc (steps_call t)), (λ t. cc));
       }
 
       none_sighted : {u : ℕ} {y : Sighting} → Sights u y (moment (Call.aside r k) (unchanged b a Answer.none)) → ⊥
-      none_sighted (Sights.by_step t) = let q = steps_call t in apart (cc)
-      none_sighted (Sights.by_aside w n s l v e q y) = apart (cc)
+      none_sighted (Sights.by_step t) = cc (steps_call t)
+      none_sighted (Sights.by_aside w n s l v e q y) = cc
 
       found_there : {u : ℕ} {y : Sighting} → b.who.inside r ≡ true → x ≢ 0 → Sights u y (moment (Call.aside r k) (unchanged b a (Answer.found_aside x (b.pool.stamp x) k (record_at a x)))) → Beholds b a u y
-      found_there i n (Sights.by_step t) = absurd (let q = steps_call t in apart (cc))
+      found_there i n (Sights.by_step t) = cc (steps_call t)
       found_there {u} {y} i n (Sights.by_aside w n' s l v e q is) =
           let there = node_there f.shaped k (ap not (ne_eqb x 0 n)) in
           let by : r ≡ u = cc in

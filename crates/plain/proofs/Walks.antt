@@ -2,7 +2,6 @@
 -- At the last step of a walk it is short, complete and honest. Assumes nothing.
 use Rattle.std.proofs.Common.{◌≡◌, ℕ, suc, ◌+◌, ◌≤◌, true, List, [], ◌∷◌, length, sym, refl, ap, ◌∙◌, subst, inl, inr, arith}
 use Rattle.scheme.specs.Histories.{Any}
-use Rattle.scheme.specs.Sets.{apart}
 use Rattle.plain.specs.Pools.{Pool, link_of}
 use Rattle.plain.specs.Boards.{Board, Area}
 use Rattle.plain.specs.History.{Moment, History, Every, Count}
@@ -44,10 +43,10 @@ trodden_few f u = few _ u.way.apart (λ x i.
 
 module _ {b : Board} {a : Area} {stage rank : ℕ → ℕ} {m : Moment} (f : Fine b stage rank) (t : Told b a m) (n : Follows b a stage m) (r : ℕ) where
   starts_stays : Starts r m → ¬ (Leaves r m)
-  starts_stays s l = let p = s.asked in let q = l.0 in apart (cc)
+  starts_stays s l = cc
 
   starts_steps : Starts r m → ¬ (Steps r m)
-  starts_steps s e = let p = s.asked in let q = e.asked in apart (cc)
+  starts_steps s e = cc
 
   pub under_way_starts : Starts r m → UnderWay m.board n.stage' r (m ∷ [])
   under_way_starts s =

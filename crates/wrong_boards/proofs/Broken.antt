@@ -3,7 +3,6 @@ use Rattle.std.proofs.Common.{◌≡◌, ◌≤◌, [], ◌∷◌, refl, arith}
 use Rattle.std.proofs.lemmas.Bool.{false≢true}
 use Rattle.scheme.specs.Meaning.{anybody}
 use Rattle.scheme.specs.Histories.{Any, Since}
-use Rattle.scheme.specs.Sets.{apart}
 use Rattle.plain.specs.Calls.{Call.enter, Call.from, Call.step, Call.cut, Call.move, Call.finish, Call.tend}
 use Rattle.plain.specs.History.{Count}
 use Rattle.plain.specs.Sightings.{StepsOn, Sights, SightingsAgree}
@@ -20,24 +19,24 @@ never_over : Breaks Wrong.never_over (λ b. WaitsEndInTime)
 unfolding anybody
 never_over = breaks _ _ (used Wrong.never_over (new_use Wrong.never_over 1 refl) (place 5 0 ∷ cut 5 ∷ tend ∷ tend ∷ []))
     (λ held.
-    let over = (held _ _ [] _ refl refl (refl, refl) none).1 (λ r v. absurd (no_visit (visit_older r (λ e. let q = e.0 in apart (cc)) (visit_older r (λ e. let q = e.0 in apart (cc)) v)))) in
+    let over = (held _ _ [] _ refl refl (refl, refl) none).1 (λ r v. absurd (no_visit (visit_older r (λ e. cc) (visit_older r (λ e. cc) v)))) in
     let said = over.said in
-    apart (cc))
+    cc)
 
 -- the scheme never hears of the wait, so it never ends
 never_tells : Breaks Wrong.never_tells (λ b. WaitsEndInTime)
 unfolding anybody
 never_tells = breaks _ _ (used Wrong.never_tells (new_use Wrong.never_tells 1 refl) (place 5 0 ∷ cut 5 ∷ tend ∷ tend ∷ []))
     (λ held.
-    let over = (held _ _ [] _ refl refl (refl, refl) none).1 (λ r v. absurd (no_visit (visit_older r (λ e. let q = e.0 in apart (cc)) (visit_older r (λ e. let q = e.0 in apart (cc)) v)))) in
+    let over = (held _ _ [] _ refl refl (refl, refl) none).1 (λ r v. absurd (no_visit (visit_older r (λ e. cc) (visit_older r (λ e. cc) v)))) in
     let said = over.said in
-    apart (cc))
+    cc)
 
 -- the wait is found over while reader 0, who was there at its start, has not left
 awaits_nobody : Breaks Wrong.awaits_nobody (λ b. WaitsEndInTime)
 unfolding anybody
 awaits_nobody = breaks _ _ (used Wrong.awaits_nobody (new_use Wrong.awaits_nobody 1 refl) (place 5 0 ∷ enter 0 ∷ cut 5 ∷ tend ∷ tend ∷ []))
-    (λ held. none ((held _ _ [] _ refl refl (refl, refl) none).0 (record { count = 1; asked = refl; said = refl }) 0 (goes_on (λ e. apart (cc)) (Since.starts (refl, refl)))))
+    (λ held. none ((held _ _ [] _ refl refl (refl, refl) none).0 (record { count = 1; asked = refl; said = refl }) 0 (goes_on (λ e. cc) (Since.starts (refl, refl)))))
 
 -- reader 0 sights node 2 with stamp 2, then, in the same visit, with stamp 3: it was removed after the wait began, and filled again
 frees_due : Breaks Wrong.frees_due (λ b. SightingsAgree)
@@ -46,8 +45,8 @@ frees_due = breaks _ _ (used Wrong.frees_due (new_use Wrong.frees_due 2 refl) (p
     (λ held.
     let stamps : 3 ≡ 2 = (held 0 _ _
     (Since.starts (Sights.by_step (StepsOn.by_seen 2 3 7 refl refl)))
-    (goes_on (λ e. apart (cc)) (goes_on (λ e. apart (cc)) (goes_on (λ e. apart (cc))
-    (goes_on (λ e. apart (cc)) (goes_on (λ e. apart (cc)) (Since.starts (Sights.by_step (StepsOn.by_seen 2 2 6 refl refl))))))))
+    (goes_on (λ e. cc) (goes_on (λ e. cc) (goes_on (λ e. cc)
+    (goes_on (λ e. cc) (goes_on (λ e. cc) (Since.starts (Sights.by_step (StepsOn.by_seen 2 2 6 refl refl))))))))
     ).same_node.0 refl in
     omega arith)
 
@@ -57,7 +56,7 @@ repeats_stamp = breaks _ _ (used Wrong.repeats_stamp (new_use Wrong.repeats_stam
     (λ held.
     let nodes : 2 ≡ 1 = (held 0 _ _
     (Since.starts (Sights.by_step (StepsOn.by_seen 2 1 6 refl refl)))
-    (goes_on (λ e. apart (cc)) (Since.starts (Sights.by_step (StepsOn.by_seen 1 1 5 refl refl))))
+    (goes_on (λ e. cc) (Since.starts (Sights.by_step (StepsOn.by_seen 1 1 5 refl refl))))
     ).same_node.1 refl in
     omega arith)
 
@@ -65,21 +64,21 @@ repeats_stamp = breaks _ _ (used Wrong.repeats_stamp (new_use Wrong.repeats_stam
 chains_by_link : Breaks Wrong.chains_by_link (λ b. WalksAreHonest)
 chains_by_link = breaks _ _ (used Wrong.chains_by_link (new_use Wrong.chains_by_link 3 refl) (place 5 0 ∷ cut 5 ∷ place 6 0 ∷ enter 0 ∷ from 0 0 ∷ step 0 ∷ cut 6 ∷ step 0 ∷ []))
     (λ held. none (older false≢true (older false≢true (older false≢true (older false≢true (held 0 5 _ (_ ∷ _ ∷ _ ∷ []) _ refl
-    (past (λ k e. apart (cc)) (λ e. apart (cc)) (λ e. apart (cc)) (past_seen 2 2 6 refl refl (Walking.starts (record { wanted = 0; asked = refl; granted = refl }))))
+    (past (λ k e. cc) (λ e. cc) (λ e. cc) (past_seen 2 2 6 refl refl (Walking.starts (record { wanted = 0; asked = refl; granted = refl }))))
     (record { sighting = _; on = StepsOn.by_seen 1 1 5 refl refl; key = refl })))))))
 
 -- key 9 is listed all the while: its old node is ahead of reader 0 until it goes, and its copy behind
 moves_without_wait : Breaks Wrong.moves_without_wait (λ b. WalksAreComplete)
 moves_without_wait = breaks _ _ (used Wrong.moves_without_wait (new_use Wrong.moves_without_wait 3 refl) (place 7 0 ∷ place 9 7 ∷ enter 0 ∷ from 0 0 ∷ step 0 ∷ move 9 0 ∷ finish ∷ step 0 ∷ []))
-    (λ held. none (older (no_step 9 (λ e. apart (cc))) (older (other_key 1 1 7 9 refl (λ e. omega arith)) (older (no_step 9 (λ e. apart (cc))) (older (no_step 9 (λ e. apart (cc))) (older (end_no_key 9 refl)
+    (λ held. none (older (no_step 9 (λ e. cc)) (older (other_key 1 1 7 9 refl (λ e. omega arith)) (older (no_step 9 (λ e. cc)) (older (no_step 9 (λ e. cc)) (older (end_no_key 9 refl)
     (held 0 9 _ (_ ∷ _ ∷ _ ∷ _ ∷ []) _ refl
-    (past (λ k e. apart (cc)) (λ e. apart (cc)) (λ e. apart (cc)) (past (λ k e. apart (cc)) (λ e. apart (cc)) (λ e. apart (cc)) (past_seen 1 1 7 refl refl (Walking.starts (record { wanted = 0; asked = refl; granted = refl })))))
+    (past (λ k e. cc) (λ e. cc) (λ e. cc) (past (λ k e. cc) (λ e. cc) (λ e. cc) (past_seen 1 1 7 refl refl (Walking.starts (record { wanted = 0; asked = refl; granted = refl })))))
     (refl, refl) (refl, (refl, (refl, (refl, (refl, tt))))))))))))
 
 -- the list has key 5 all the while, and the walk ends at once
 always_ends : Breaks Wrong.always_ends (λ b. WalksAreComplete)
 always_ends = breaks _ _ (used Wrong.always_ends (new_use Wrong.always_ends 1 refl) (place 5 0 ∷ enter 0 ∷ from 0 0 ∷ step 0 ∷ []))
-    (λ held. none (older (no_step 5 (λ e. apart (cc))) (older (end_no_key 5 refl)
+    (λ held. none (older (no_step 5 (λ e. cc)) (older (end_no_key 5 refl)
     (held 0 5 _ (_ ∷ []) _ refl (Walking.starts (record { wanted = 0; asked = refl; granted = refl })) (refl, refl) (refl, (refl, tt))))))
 
 -- three steps on a board of one node
@@ -88,7 +87,7 @@ links_to_itself = breaks _ _ (used Wrong.links_to_itself (new_use Wrong.links_to
     (λ held.
     let short : 3 ≤ 2 = held 0 3 (_ ∷ _ ∷ _ ∷ _ ∷ []) _ refl
     (Walked.under_way (past_seen 1 1 5 refl refl (past_seen 1 1 5 refl refl (past_seen 1 1 5 refl refl (Walking.starts (record { wanted = 0; asked = refl; granted = refl }))))))
-    (Count.one_more (record { asked = refl; granted = λ n f e. apart (cc) }) (Count.one_more (record { asked = refl; granted = λ n f e. apart (cc) }) (Count.one_more (record { asked = refl; granted = λ n f e. apart (cc) }) (Count.no_more (λ s. let q = s.asked in apart (cc)) Count.none)))) in
+    (Count.one_more (record { asked = refl; granted = λ n f e. cc }) (Count.one_more (record { asked = refl; granted = λ n f e. cc }) (Count.one_more (record { asked = refl; granted = λ n f e. cc }) (Count.no_more (λ s. cc) Count.none)))) in
     omega arith)
 
 -- the removal is settled, and node 1 is neither free nor listed

@@ -8,7 +8,6 @@ use Rattle.plain.specs.History.{Play, Moment, moment, History, Run}
 use Rattle.plain.specs.Sightings.{Enters, Leaves, Visiting, Sighting, StepsOn}
 use Rattle.plain.specs.Walks.{Walking, StepsOnKey}
 use Rattle.plain.proofs.Told.{steps_call}
-use Rattle.scheme.specs.Sets.{apart}
 use Rattle.wrong_boards.specs.Breaks.{Breaks}
 
 pub record Use (play : Play) : Type 0 where
@@ -62,7 +61,7 @@ module _ {r : ℕ} {m : Moment} where
   -- past a step that has seen a node
   pub past_seen : (n s k : ℕ) {w : History} → m.call ≡ Call.step r → m.answer ≡ Answer.seen n s k → Walking r w → Walking r (m ∷ w)
   past_seen n s k c a w =
-      Walking.goes_on (λ e. let q = e.asked in apart (cc)) (λ e. let q = e.0 in apart (cc)) (λ e. let q = e.said in apart (cc)) (λ e. let q = e.1 in apart (cc)) w
+      Walking.goes_on (λ e. cc) (λ e. cc) (λ e. cc) (λ e. cc) w
 
   -- ---- a key is not stepped on
 
@@ -71,14 +70,14 @@ module _ {r : ℕ} {m : Moment} where
 
   on_other : {x : Sighting} (n s j : ℕ) → m.answer ≡ Answer.seen n s j → StepsOn r m x → j ≡ x.key
   on_other n s j a (StepsOn.by_seen n' s' k' c q) = cc
-  on_other n s j a (StepsOn.by_found n' s' k' c q) = absurd (apart (cc))
+  on_other n s j a (StepsOn.by_found n' s' k' c q) = cc
 
   pub other_key : (n s j k : ℕ) → m.answer ≡ Answer.seen n s j → ¬ (j ≡ k) → ¬ (StepsOnKey r k m)
   other_key n s j k a d o = let e = on_other n s j a o.on in let q = o.key in d (cc)
 
   on_none : {x : Sighting} → m.answer ≡ Answer.end → StepsOn r m x → ⊥
-  on_none a (StepsOn.by_seen n' s' k' c q) = apart (cc)
-  on_none a (StepsOn.by_found n' s' k' c q) = apart (cc)
+  on_none a (StepsOn.by_seen n' s' k' c q) = cc
+  on_none a (StepsOn.by_found n' s' k' c q) = cc
 
   pub end_no_key : (k : ℕ) → m.answer ≡ Answer.end → ¬ (StepsOnKey r k m)
   end_no_key k a o = on_none a o.on
