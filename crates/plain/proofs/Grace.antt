@@ -10,52 +10,29 @@ use Rattle.plain.proofs.Shape.{Shaped, Somewhere, Two, Moved, Carried, Turned, O
 use Rattle.plain.proofs.Books.{books_begin, books_over}
 
 old_at_begin : (m : Move) → old_of (at_begin m) ≡ old_of m
-old_at_begin Move.none = refl
-old_at_begin (Move.later o c) = refl
 old_at_begin (Move.earlier o c Need.lacking) = refl
-old_at_begin (Move.earlier o c Need.begun) = refl
-old_at_begin (Move.earlier o c Need.met) = refl
+old_at_begin m = refl
 
 old_at_over : (m : Move) → old_of (at_over m) ≡ old_of m
-old_at_over Move.none = refl
-old_at_over (Move.later o c) = refl
-old_at_over (Move.earlier o c Need.lacking) = refl
 old_at_over (Move.earlier o c Need.begun) = refl
-old_at_over (Move.earlier o c Need.met) = refl
-
-two_begin : {q : Pool} {o c : ℕ} → Two q o c → Two (covering q) o c
-two_begin t = record { old = t.old; copy = t.copy; differ = t.differ; alike = t.alike }
-
-two_over : {q : Pool} {o c : ℕ} → Two q o c → Two (freeing q) o c
-two_over t = record { old = t.old; copy = t.copy; differ = t.differ; alike = t.alike }
+old_at_over m = refl
 
 moved_begin : (q : Pool) (m : Move) → Moved q m → Moved (covering q) (at_begin m)
-moved_begin q Move.none t = tt
-moved_begin q (Move.later o c) t = (two_begin t.0, t.1)
-moved_begin q (Move.earlier o c Need.lacking) t = two_begin t
-moved_begin q (Move.earlier o c Need.begun) t = two_begin t
-moved_begin q (Move.earlier o c Need.met) t = two_begin t
+moved_begin q (Move.earlier o c Need.lacking) t = t
+moved_begin q m t = t
 
 moved_over : (q : Pool) (m : Move) → Moved q m → Moved (freeing q) (at_over m)
-moved_over q Move.none t = tt
-moved_over q (Move.later o c) t = (two_over t.0, t.1)
-moved_over q (Move.earlier o c Need.lacking) t = two_over t
-moved_over q (Move.earlier o c Need.begun) t = two_over t
-moved_over q (Move.earlier o c Need.met) t = two_over t
+moved_over q (Move.earlier o c Need.begun) t = t
+moved_over q m t = t
 
 owed_begin : (m : Move) (aw aw' : Bool) (x : ℕ) → aw' ≡ true → Owed (at_begin m) aw' x → Owed m aw x
-owed_begin Move.none aw aw' x e w = w
-owed_begin (Move.later o c) aw aw' x e w = w
-owed_begin (Move.earlier o c Need.lacking) aw aw' x e w = both_ways aw' w.0 e
-owed_begin (Move.earlier o c Need.begun) aw aw' x e w = absurd (both_ways aw' w.0 e)
-owed_begin (Move.earlier o c Need.met) aw aw' x e w = w
+owed_begin (Move.earlier o c Need.lacking) aw aw' x e w = cc
+owed_begin (Move.earlier o c Need.begun) aw aw' x e w = cc
+owed_begin m aw aw' x e w = w
 
 owed_over : (m : Move) (aw aw' : Bool) (x : ℕ) → aw ≡ false → Owed (at_over m) aw' x → Owed m aw x
-owed_over Move.none aw aw' x e w = w
-owed_over (Move.later o c) aw aw' x e w = w
-owed_over (Move.earlier o c Need.lacking) aw aw' x e w = w
 owed_over (Move.earlier o c Need.begun) aw aw' x e w = (e, w)
-owed_over (Move.earlier o c Need.met) aw aw' x e w = w
+owed_over m aw aw' x e w = w
 
 module _ {size : ℕ} {q : Pool} {stage rank : ℕ → ℕ} (s : Shaped size q stage rank) where
   begun_somewhere : q.covered ≡ [] → (x : ℕ) → Somewhere q x → Somewhere (covering q) x

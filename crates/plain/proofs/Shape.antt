@@ -10,33 +10,27 @@ use Rattle.plain.proofs.Reached.{Chain, sized_chain, chain_ahead, ahead_chain, h
 
 -- ---- moves
 
-pub record Two (q : Pool) (o c : ℕ) : Type 0 where
-  pub old : Ahead (link_of q) o 0
-  pub copy : Ahead (link_of q) c 0
+pub record Two (lk key : ℕ → ℕ) (o c : ℕ) : Type 0 where
+  pub old : Ahead lk o 0
+  pub copy : Ahead lk c 0
   pub differ : o ≢ c
-  pub alike : q.key c ≡ q.key o
+  pub alike : key c ≡ key o
 
 abbrev pub Moved : Pool → Move → Type 0
 Moved q Move.none = Unit {0}
-Moved q (Move.later o c) = Two q o c × Ahead (link_of q) c o
-Moved q (Move.earlier o c Need.lacking) = Two q o c
-Moved q (Move.earlier o c Need.begun) = Two q o c
-Moved q (Move.earlier o c Need.met) = Two q o c
+Moved q (Move.later o c) = Two (link_of q) q.key o c × Ahead (link_of q) c o
+Moved q (Move.earlier o c need) = Two (link_of q) q.key o c
 
 -- c is the copy of an earlier move, and a reader that is awaited or not, as a says, came after it was placed
 abbrev pub Owed : Move → Bool → ℕ → Type 0
-Owed Move.none a x = ⊥
-Owed (Move.later o c) a x = ⊥
-Owed (Move.earlier o c Need.lacking) a x = ⊥
 Owed (Move.earlier o c Need.begun) a x = (a ≡ false) × (x ≡ c)
 Owed (Move.earlier o c Need.met) a x = x ≡ c
+Owed m a x = ⊥
 
-pub owed_two : (q : Pool) (m : Move) (a : Bool) (c : ℕ) → Moved q m → Owed m a c → (o : ℕ) × Two q o c
-owed_two q Move.none a x t w = absurd w
-owed_two q (Move.later o c) a x t w = absurd w
-owed_two q (Move.earlier o c Need.lacking) a x t w = absurd w
-owed_two q (Move.earlier o c Need.begun) a x t w = (o, subst (λ (z : ℕ). Two q o z) (sym w.1) t)
-owed_two q (Move.earlier o c Need.met) a x t w = (o, subst (λ (z : ℕ). Two q o z) (sym w) t)
+pub owed_two : (q : Pool) (m : Move) (a : Bool) (c : ℕ) → Moved q m → Owed m a c → (o : ℕ) × Two (link_of q) q.key o c
+owed_two q (Move.earlier o c Need.begun) a x t w = (o, rw w.1 t)
+owed_two q (Move.earlier o c Need.met) a x t w = (o, rw w t)
+owed_two q m a x t w = absurd w
 
 -- ---- the pool
 

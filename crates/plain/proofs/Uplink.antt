@@ -94,7 +94,7 @@ module _ {b : Board} {stage rank : ℕ → ℕ} (f : Fine b stage rank) (a : Are
     q₁ = with_move the_move (placed_behind k (after b h) q)
 
     module _ (free : q.free ≡ new ∷ tail q.free) (there : (after b h ≡ 0) ⊎ Ahead lk (after b h) 0) (listed_old : Ahead lk old 0) (key : q.key old ≡ k) where
-      two : Two q₁ old new
+      two : Two (link_of q₁) q₁.key old new
       two = record {
         old = still_ahead s k (after b h) new (tail q.free) free there the_move (let w = s.ordered.head in omega arith) listed_old;
         copy = new_listed s k (after b h) new (tail q.free) free there the_move;
@@ -145,15 +145,13 @@ module _ {b : Board} {stage rank : ℕ → ℕ} (f : Fine b stage rank) (a : Are
     old : ℕ
     copy : ℕ
     is_old : old_of q.move ≡ old
-    both : Two q old copy
+    both : Two lk q.key old copy
     way : Ahead lk copy old ⊎ ((aw : Bool) → Owed q.move aw copy)
 
   finishing : (m : Move) → q.move ≡ m → Moved q m → not (under_way m) ≡ false → lacks_wait m ≡ false → Finishing
-  finishing Move.none e t i l = absurd (true≢false i)
   finishing (Move.later o c) e t i l = record { old = o; copy = c; is_old = ap old_of e; both = t.0; way = inl t.1 }
-  finishing (Move.earlier o c Need.lacking) e t i l = absurd (true≢false l)
-  finishing (Move.earlier o c Need.begun) e t i l = absurd (true≢false l)
-  finishing (Move.earlier o c Need.met) e t i l = record { old = o; copy = c; is_old = ap old_of e; both = t; way = inr (λ aw. subst (λ (m : Move). Owed m aw c) (sym e) refl) }
+  finishing (Move.earlier o c Need.met) e t i l = record { old = o; copy = c; is_old = ap old_of e; both = t; way = inr (λ aw. rw e refl) }
+  finishing m e t i l = cc
 
   finishes : Passed (checks making b a Call.finish) → Follows b a stage (moment Call.finish (accepted making b a Call.finish))
   finishes passed =

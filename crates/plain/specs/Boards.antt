@@ -1,5 +1,5 @@
 -- The plain board: a scheme's meaning, a slot for each reader, and the pool; the record area beside it. Assumes nothing.
-use Rattle.std.specs.Prelude.{ℕ, ◌-◌, Bool, true, false, cond, not, ◌&&◌, ◌||◌, ◌⊎◌, List, [], ℤ, ◌==◌, slice_index_or, slice_set}
+use Rattle.std.specs.Prelude.{ℕ, ◌-◌, Bool, true, false, not, ◌&&◌, ◌||◌, ◌⊎◌, List, [], ℤ, ◌==◌, if◌then◌else◌, slice_index_or, slice_set}
 use Rattle.std.proofs.Common.{inl, inr}
 use Rattle.scheme.specs.Meaning.{Meaning, at_start}
 use Rattle.plain.specs.Changed.{changed}
@@ -58,13 +58,13 @@ new_board m n s = record {
 }
 
 abbrev pub with_slot : ℕ → Slot → Board → Board
-with_slot r s b = record { readers = b.readers; size = b.size; who = b.who; slots = changed b.slots r s; pool = b.pool }
+with_slot r s b = record b { slots = changed b.slots r s }
 
 abbrev pub with_who : Meaning → Board → Board
-with_who w b = record { readers = b.readers; size = b.size; who = w; slots = b.slots; pool = b.pool }
+with_who w b = record b { who = w }
 
 abbrev pub with_pool : Pool → Board → Board
-with_pool q b = record { readers = b.readers; size = b.size; who = b.who; slots = b.slots; pool = q }
+with_pool q b = record b { pool = q }
 
 -- the nodes that the links from the front reach
 abbrev pub listed : Board → List ℕ
@@ -83,7 +83,7 @@ predecessor b x = before 0 x (listed b)
 
 -- the node that a new one is placed behind, by its key; 0 for the front
 abbrev pub after : Board → ℕ → ℕ
-after b a = cond (a == 0) 0 (node_of b a)
+after b a = if a == 0 then 0 else node_of b a
 
 -- whether behind a is nearer to the front than k is
 abbrev pub is_earlier : Board → (k a : ℕ) → Bool

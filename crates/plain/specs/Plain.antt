@@ -1,5 +1,5 @@
 -- What each call of the plain board answers, and the board and the record area that it leaves. Assumes nothing.
-use Rattle.std.specs.Prelude.{ℕ, cond, not, ◌||◌, ◌⊎◌, length, ◌==◌}
+use Rattle.std.specs.Prelude.{ℕ, not, ◌||◌, ◌⊎◌, length, ◌==◌, if◌then◌else◌}
 use Rattle.std.proofs.Common.{inl, inr}
 use Rattle.scheme.specs.declared.interface.Poll.{Poll}
 use Rattle.scheme.specs.declared.interface.Poll.TheVariants.{NoWait, NotYet, Over}
@@ -32,17 +32,16 @@ module _ (b : Board) (area : Area) where
   stepped r x =
       let walk = (b.slots r).walk in
       let k = b.pool.key x in
-      cond (x == 0) (stands r at_rest Answer.end)
-      (cond (is_wanted walk k)
-      (stands r (record { walk = Walk.none; place = x }) (Answer.found x (b.pool.stamp x) k))
-      (stands r (record { walk = walk; place = x }) (Answer.seen x (b.pool.stamp x) k)))
+      if x == 0 then stands r at_rest Answer.end
+      else if is_wanted walk k then stands r (record { walk = Walk.none; place = x }) (Answer.found x (b.pool.stamp x) k)
+      else stands r (record { walk = walk; place = x }) (Answer.seen x (b.pool.stamp x) k)
 
   -- what tend does, by what the poll says
   abbrev pub tended : Poll → Result
   tended NoWait =
-      cond (not (is_empty b.pool.due) || needs_begin b.pool.move)
-      (record { answer = Answer.begun; board = with_who (on_begin b.who).next (with_pool (covering b.pool) b); area = area })
-      (unchanged Answer.idle)
+      if not (is_empty b.pool.due) || needs_begin b.pool.move
+      then record { answer = Answer.begun; board = with_who (on_begin b.who).next (with_pool (covering b.pool) b); area = area }
+      else unchanged Answer.idle
   tended NotYet = unchanged Answer.waiting
   tended Over = record { answer = Answer.over (length b.pool.covered); board = with_who (on_poll b.who).next (with_pool (freeing b.pool) b); area = area }
 
@@ -55,7 +54,7 @@ accepted making b area (Call.look r) = unchanged b area (Answer.shows (record_at
 accepted making b area (Call.from r k) = stands b area r (record { walk = Walk.for_key k; place = 0 }) Answer.done
 accepted making b area (Call.aside r k) =
     let x = node_of b k in
-    unchanged b area (cond (x == 0) Answer.none (Answer.found_aside x (b.pool.stamp x) k (record_at area x)))
+    unchanged b area (if x == 0 then Answer.none else Answer.found_aside x (b.pool.stamp x) k (record_at area x))
 accepted making b area (Call.put k a v w x y) =
     let new = head_or_0 b.pool.free in
     record {
@@ -83,8 +82,8 @@ accepted making b area (Call.move k a) =
     let old = node_of b k in
     let stamp = b.pool.next_stamp in
     record {
-      answer = cond (is_earlier b k a) (Answer.earlier new stamp) (Answer.later new stamp);
-      board = with_pool (with_move (cond (is_earlier b k a) (Move.earlier old new Need.lacking) (Move.later old new)) (placed_behind k (after b a) b.pool)) b;
+      answer = if is_earlier b k a then Answer.earlier new stamp else Answer.later new stamp;
+      board = with_pool (with_move (if is_earlier b k a then Move.earlier old new Need.lacking else Move.later old new) (placed_behind k (after b a) b.pool)) b;
       area = with_record new (record_at area old) area;
     }
 accepted making b area Call.finish =

@@ -1,5 +1,5 @@
 -- The pool of nodes: the list, the three chains, the stamps, and the move that is under way. Assumes nothing.
-use Rattle.std.specs.Prelude.{ℕ, zero, suc, Bool, true, false, cond, List, [], ◌∷◌, ◌++◌, ◌==◌}
+use Rattle.std.specs.Prelude.{ℕ, zero, suc, Bool, true, false, List, [], ◌∷◌, ◌++◌, ◌==◌, if◌then◌else◌}
 use Rattle.plain.specs.Changed.{changed}
 
 -- ---- chains of node numbers
@@ -46,33 +46,22 @@ under_way (Move.earlier old copy need) = true
 
 -- whether a wait that has not begun is needed, and whether one that is not over is
 abbrev pub needs_begin : Move → Bool
-needs_begin Move.none = false
-needs_begin (Move.later old copy) = false
 needs_begin (Move.earlier old copy Need.lacking) = true
-needs_begin (Move.earlier old copy Need.begun) = false
-needs_begin (Move.earlier old copy Need.met) = false
+needs_begin m = false
 
 abbrev pub lacks_wait : Move → Bool
-lacks_wait Move.none = false
-lacks_wait (Move.later old copy) = false
 lacks_wait (Move.earlier old copy Need.lacking) = true
 lacks_wait (Move.earlier old copy Need.begun) = true
-lacks_wait (Move.earlier old copy Need.met) = false
+lacks_wait m = false
 
 -- the move as a wait begins, and as one is found over
 abbrev pub at_begin : Move → Move
-at_begin Move.none = Move.none
-at_begin (Move.later old copy) = Move.later old copy
 at_begin (Move.earlier old copy Need.lacking) = Move.earlier old copy Need.begun
-at_begin (Move.earlier old copy Need.begun) = Move.earlier old copy Need.begun
-at_begin (Move.earlier old copy Need.met) = Move.earlier old copy Need.met
+at_begin m = m
 
 abbrev pub at_over : Move → Move
-at_over Move.none = Move.none
-at_over (Move.later old copy) = Move.later old copy
-at_over (Move.earlier old copy Need.lacking) = Move.earlier old copy Need.lacking
 at_over (Move.earlier old copy Need.begun) = Move.earlier old copy Need.met
-at_over (Move.earlier old copy Need.met) = Move.earlier old copy Need.met
+at_over m = m
 
 -- ---- the pool
 
@@ -89,84 +78,53 @@ pub record Pool : Type 0 where
 
 -- the link of node p, or the front where p is 0: place 0 is before the front
 abbrev pub link_of : Pool → ℕ → ℕ
-link_of q p = cond (p == 0) q.front (q.link p)
+link_of q p = if p == 0 then q.front else q.link p
 
 -- the nodes that links reach from place p, at most f of them; link 0 ends the chain
 abbrev pub reached : ℕ → (ℕ → ℕ) → ℕ → List ℕ
 reached zero links p = []
-reached (suc f) links p = cond (links p == 0) [] (links p ∷ reached f links (links p))
+reached (suc f) links p = if links p == 0 then [] else links p ∷ reached f links (links p)
 
 -- the first of these nodes that has the key k, or 0
 abbrev pub holder : (ℕ → ℕ) → ℕ → List ℕ → ℕ
 holder keys k [] = 0
-holder keys k (x ∷ xs) = cond (keys x == k) x (holder keys k xs)
+holder keys k (x ∷ xs) = if keys x == k then x else holder keys k xs
 
 -- the node before x, where p stands before the first
 abbrev pub before : ℕ → ℕ → List ℕ → ℕ
 before p x [] = p
-before p x (y ∷ ys) = cond (y == x) p (before y x ys)
+before p x (y ∷ ys) = if y == x then p else before y x ys
 
 -- whether x comes before y
 abbrev pub precedes : ℕ → ℕ → List ℕ → Bool
 precedes x y [] = false
-precedes x y (z ∷ zs) = cond (z == y) false (cond (z == x) true (precedes x y zs))
+precedes x y (z ∷ zs) = if z == y then false else if z == x then true else precedes x y zs
 
 -- ---- what is done to a pool
 
 -- v is written into the link of node p, or into the front where p is 0
 abbrev pub link_to : ℕ → ℕ → Pool → Pool
-link_to p v q = record {
-  front = cond (p == 0) v q.front;
-  link = cond (p == 0) q.link (changed q.link p v);
-  key = q.key;
-  stamp = q.stamp;
-  free = q.free;
-  due = q.due;
-  covered = q.covered;
-  next_stamp = q.next_stamp;
-  move = q.move;
+link_to p v q = record q {
+  front = if p == 0 then v else q.front;
+  link = if p == 0 then q.link else changed q.link p v;
 }
 
 -- the first free node gets the key k, the next stamp and the link v
 abbrev pub filled : ℕ → ℕ → Pool → Pool
-filled k v q = record {
-  front = q.front;
+filled k v q = record q {
   link = changed q.link (head_or_0 q.free) v;
   key = changed q.key (head_or_0 q.free) k;
   stamp = changed q.stamp (head_or_0 q.free) q.next_stamp;
   free = tail q.free;
-  due = q.due;
-  covered = q.covered;
   next_stamp = suc q.next_stamp;
-  move = q.move;
 }
 
 -- x is due, before all others; its link, key and stamp stay as they are
 abbrev pub retired : ℕ → Pool → Pool
-retired x q = record {
-  front = q.front;
-  link = q.link;
-  key = q.key;
-  stamp = q.stamp;
-  free = q.free;
-  due = x ∷ q.due;
-  covered = q.covered;
-  next_stamp = q.next_stamp;
-  move = q.move;
-}
+retired x q = record q { due = x ∷ q.due }
 
 abbrev pub with_move : Move → Pool → Pool
-with_move m q = record {
-  front = q.front;
-  link = q.link;
-  key = q.key;
-  stamp = q.stamp;
-  free = q.free;
-  due = q.due;
-  covered = q.covered;
-  next_stamp = q.next_stamp;
-  move = m;
-}
+with_move m q = record q { move = m }
 
 -- the first free node is filled and placed behind node p, or at the front where p is 0
 abbrev pub placed_behind : ℕ → ℕ → Pool → Pool
@@ -182,28 +140,16 @@ swapped k p x q = retired x (link_to p (head_or_0 q.free) (filled k (link_of q x
 
 -- a wait begins: the due chain becomes the covered chain
 abbrev pub covering : Pool → Pool
-covering q = record {
-  front = q.front;
-  link = q.link;
-  key = q.key;
-  stamp = q.stamp;
-  free = q.free;
+covering q = record q {
   due = [];
   covered = q.due;
-  next_stamp = q.next_stamp;
   move = at_begin q.move;
 }
 
 -- a wait is found over: the covered chain goes before the free chain
 abbrev pub freeing : Pool → Pool
-freeing q = record {
-  front = q.front;
-  link = q.link;
-  key = q.key;
-  stamp = q.stamp;
+freeing q = record q {
   free = q.covered ++ q.free;
-  due = q.due;
   covered = [];
-  next_stamp = q.next_stamp;
   move = at_over q.move;
 }

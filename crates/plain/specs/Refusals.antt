@@ -1,5 +1,5 @@
 -- Which calls are refused, and by which number: the checks of each call, in the order of their numbers. Assumes nothing.
-use Rattle.std.specs.Prelude.{ℕ, Bool, cond, not, ◌&&◌, ◌||◌, ltb, ◌⊎◌, List, [], ◌∷◌, length, ◌==◌, nat_eq, nat_le, nat_lt}
+use Rattle.std.specs.Prelude.{ℕ, Bool, not, ◌&&◌, ◌||◌, ◌⊎◌, List, [], ◌∷◌, length, ◌==◌, nat_le, nat_lt, if◌then◌else◌}
 use Rattle.scheme.specs.Meaning.{readers}
 use Rattle.record.specs.Making.{Making}
 use Rattle.plain.specs.Pools.{is_empty, under_way, lacks_wait}
@@ -19,7 +19,7 @@ n holds_if b = record { number = n; field = 0; holds = b }
 -- the first check that holds refuses; if none does, it is done
 abbrev pub checked : {A : Type 0} → List Check → A → (ℕ → ℕ → A) → A
 checked [] done refuse = done
-checked (c ∷ cs) done refuse = cond c.holds (refuse c.number c.field) (checked cs done refuse)
+checked (c ∷ cs) done refuse = if c.holds then refuse c.number c.field else checked cs done refuse
 
 -- ---- the making
 
@@ -30,15 +30,15 @@ abbrev pub last_stamp : ℕ
 last_stamp = 4_294_967_295
 
 abbrev pub making_checks : (m n s : ℕ) → List Check
-making_checks m n s = (1 holds_if (m == 0 || nat_lt readers m)) ∷ (2 holds_if (n == 0 || nat_lt most_nodes n)) ∷ (3 holds_if nat_eq s 0) ∷ []
+making_checks m n s = (1 holds_if (m == 0 || nat_lt readers m)) ∷ (2 holds_if (n == 0 || nat_lt most_nodes n)) ∷ (3 holds_if (s == 0)) ∷ []
 
 -- ---- the calls
 
 abbrev pub key_zero : ℕ → Check
-key_zero k = 10 holds_if nat_eq k 0
+key_zero k = 10 holds_if (k == 0)
 
 abbrev pub after_itself : (k a : ℕ) → Check
-after_itself k a = 14 holds_if nat_eq a k
+after_itself k a = 14 holds_if (a == k)
 
 abbrev pub fields_at_fault : Record ⊎ ℕ → Check
 fields_at_fault made = record { number = 20; field = fault_field made; holds = at_fault made }
@@ -57,10 +57,10 @@ module _ (b : Board) where
   no_walk r = 7 holds_if not (is_walking (b.slots r).walk)
 
   abbrev pub on_no_node : ℕ → Check
-  on_no_node r = 8 holds_if nat_eq (b.slots r).place 0
+  on_no_node r = 8 holds_if ((b.slots r).place == 0)
 
   abbrev pub area_short : Area → Check
-  area_short area = 9 holds_if ltb (length area) b.size
+  area_short area = 9 holds_if nat_lt (length area) b.size
 
   abbrev pub key_listed : ℕ → Check
   key_listed k = 11 holds_if is_listed b k
@@ -75,7 +75,7 @@ module _ (b : Board) where
   none_free = 15 holds_if is_empty b.pool.free
 
   abbrev pub no_stamp_left : Check
-  no_stamp_left = 16 holds_if ltb last_stamp b.pool.next_stamp
+  no_stamp_left = 16 holds_if nat_lt last_stamp b.pool.next_stamp
 
   abbrev pub move_under_way : Check
   move_under_way = 17 holds_if under_way b.pool.move

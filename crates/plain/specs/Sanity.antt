@@ -1,5 +1,5 @@
 -- What makes sure that the definitions mean what their names say. Assumes nothing.
-use Rattle.std.specs.Prelude.{◌≡◌, ℕ, suc, ◌<◌, ◌≤◌, Bool, true, cond, ◌&&◌, List, [], ◌∷◌, ◌++◌, ◌==◌, nat_lt}
+use Rattle.std.specs.Prelude.{◌≡◌, ℕ, suc, ◌<◌, ◌≤◌, Bool, true, ◌&&◌, List, [], ◌∷◌, ◌++◌, ◌==◌, nat_lt, if◌then◌else◌, IsTrue}
 use Rattle.record.specs.Making.{Making}
 use Rattle.plain.specs.Pools.{link_of, reached}
 use Rattle.plain.specs.Boards.{Board, Area, listed}
@@ -16,15 +16,15 @@ ascending n [] = true
 ascending n (c ∷ cs) = nat_lt n c.number && ascending c.number cs
 
 pub record RefusalsAscend : Type 0 where
-  pub of_making : (m n s : ℕ) → ascending 0 (making_checks m n s) ≡ true
-  pub of_calls : (making : Making) (b : Board) (area : Area) (c : Call) → ascending 0 (checks making b area c) ≡ true
+  pub of_making : (m n s : ℕ) → IsTrue (ascending 0 (making_checks m n s))
+  pub of_calls : (making : Making) (b : Board) (area : Area) (c : Call) → IsTrue (ascending 0 (checks making b area c))
 
 -- ---- the list is cut short nowhere, and no node is lost or in two places
 
 -- how often x is in a list
 abbrev pub times : ℕ → List ℕ → ℕ
 times x [] = 0
-times x (y ∷ ys) = cond (x == y) (suc (times x ys)) (times x ys)
+times x (y ∷ ys) = if x == y then suc (times x ys) else times x ys
 
 pub record Whole (b : Board) : Type 0 where
   -- to follow the links one further than the size reaches no further node

@@ -1,5 +1,5 @@
 -- Walks: how long they are, what they miss, and what they show. Assumes nothing.
-use Rattle.std.specs.Prelude.{◌≡◌, ℕ, ◌+◌, ◌≤◌, true, ◌⊎◌, [], ◌∷◌, ◌++◌}
+use Rattle.std.specs.Prelude.{◌≡◌, ℕ, ◌+◌, ◌≤◌, IsTrue, ◌⊎◌, [], ◌∷◌, ◌++◌}
 use Rattle.scheme.specs.Histories.{Any}
 use Rattle.plain.specs.Boards.{is_listed}
 use Rattle.plain.specs.Calls.{Call, Answer}
@@ -46,7 +46,7 @@ pub record StepsOnKey (r k : ℕ) (m : Moment) : Type 0 where
   pub key : sighting.key ≡ k
 
 abbrev pub Listed : ℕ → Moment → Type 0
-Listed k m = is_listed m.board k ≡ true
+Listed k m = IsTrue (is_listed m.board k)
 
 -- ---- the laws, of a walk whose newest moment is the newest of the history; older is what came before the walk
 
