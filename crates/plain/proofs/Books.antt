@@ -7,7 +7,7 @@ use Rattle.plain.proofs.Changed.{changed_at, changed_elsewhere}
 use Rattle.plain.specs.Pools.{Pool, covering, freeing}
 use Rattle.plain.specs.Boards.{new_board}
 use Rattle.plain.proofs.Links.{raised, raised_cases}
-use Rattle.plain.proofs.Lists.{In, in_cases, in_none, in_append, Apart, apart_head, apart_tail, apart_append, in_upto, apart_upto}
+use Rattle.plain.proofs.Lists.{In, in_cases, in_append, Apart, apart_head, apart_tail, apart_append, in_upto, apart_upto}
 use Rattle.plain.proofs.Shape.{Books}
 
 -- the first free node y is filled
@@ -114,7 +114,7 @@ pub books_begin : {size : ℕ} {q : Pool} {stage : ℕ → ℕ} → Books size q
 books_begin {size} {q} {stage} k = record {
   bounded = λ x l. k.bounded x (live x l);
   in_free = λ x i. let r = k.in_free x i in let c = raised_cases 1 2 (stage x) in (omega arith, r.1);
-  in_due = λ x i. absurd (in_none i);
+  in_due = λ x i. elim i [ ];
   in_covered = λ x i. let r = k.in_due x i in let c = raised_cases 1 2 (stage x) in omega arith;
   apart_free = k.apart_free;
   apart_due = Apart.nothing;
@@ -136,7 +136,7 @@ books_over {size} {q} {stage} k = record {
         | inr j ↦ let r = k.in_free x j in (omega arith, r.1)
       ];
   in_due = λ x i. let r = k.in_due x i in let c = raised_cases 2 3 (stage x) in omega arith;
-  in_covered = λ x i. absurd (in_none i);
+  in_covered = λ x i. elim i [ ];
   apart_free = apart_append k.apart_covered k.apart_free (λ x i j. let r = k.in_covered x i in let f = k.in_free x j in omega arith);
   apart_due = k.apart_due;
   apart_covered = Apart.nothing;
@@ -160,8 +160,8 @@ pub books_new : (m n s : ℕ) → 0 < s → Books n (new_board m n s).pool new_s
 books_new m n s h = record {
   bounded = λ x l. elim (cases_eq x 0) [ inl e ↦ omega arith | inr e ↦ absurd (let w = new_free x e in omega arith) ];
   in_free = λ x i. let r = in_upto 1 n i in (new_free x (omega arith), omega arith);
-  in_due = λ x i. absurd (in_none i);
-  in_covered = λ x i. absurd (in_none i);
+  in_due = λ x i. elim i [ ];
+  in_covered = λ x i. elim i [ ];
   apart_free = apart_upto 1 n;
   apart_due = Apart.nothing;
   apart_covered = Apart.nothing;

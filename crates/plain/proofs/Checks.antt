@@ -1,6 +1,7 @@
 -- What the passing of a call's checks says, check by check; what an accepted making says of the new board. Assumes nothing.
-use Rattle.std.proofs.Common.{◌≡◌, ℕ, ◌<◌, ◌≤◌, false, eqb, ltb, ◌⊎◌, List, [], ◌∷◌, refl, inl, inr, arith}
-use Rattle.std.proofs.lemmas.Bool.{true≢false, or_parts, eqb-false, ltb-false, cond_both}
+use Rattle.std.proofs.Common.{◌≡◌, ℕ, ◌<◌, ◌≤◌, false, ◌⊎◌, List, [], ◌∷◌, refl, inl, inr, arith}
+use Rattle.std.proofs.lemmas.Bool.{cond_both}
+use Rattle.std.proofs.lemmas.Bool.Decides.{nat_tests}
 use Rattle.plain.specs.Pools.{is_empty, head_or_0, tail, Move, under_way}
 use Rattle.plain.specs.Boards.{Board, new_board}
 use Rattle.plain.specs.Refusals.{Check, checked, making_checks}
@@ -21,21 +22,17 @@ checked_both (c ∷ cs) done refuse P p r = cond_both c.holds (refuse c.number c
 -- ---- what single checks say
 
 pub not_empty : (l : List ℕ) → is_empty l ≡ false → l ≡ head_or_0 l ∷ tail l
-not_empty [] e = absurd (true≢false e)
+not_empty [] e = cc
 not_empty (x ∷ xs) e = refl
 
 pub no_move : (m : Move) → under_way m ≡ false → m ≡ Move.none
 no_move Move.none e = refl
-no_move (Move.later o c) e = absurd (true≢false e)
-no_move (Move.earlier o c n) e = absurd (true≢false e)
+no_move m e = cc
 
 -- ---- a board was made
 
 pub made_of : (m n s : ℕ) {b : Board} → make m n s ≡ inl b → (new_board m n s ≡ b) × (m ≤ 16) × (0 < s)
 made_of m n s {b} = checked_both (making_checks m n s) (inl (new_board m n s)) (λ number field. inr number)
     (λ (v : Board ⊎ ℕ). v ≡ inl b → (new_board m n s ≡ b) × (m ≤ 16) × (0 < s))
-    (λ cs q.
-    let few = ltb-false 16 m (or_parts (eqb m 0) (ltb 16 m) cs.0).1 in
-    let not_0 = eqb-false s 0 cs.1.1.0 in
-    (cc, omega arith, omega arith))
+    (λ cs q. (cc, grind (arith, nat_tests), grind (arith, nat_tests)))
     (λ number field q. cc)

@@ -5,8 +5,8 @@ use Rattle.std.proofs.lemmas.Bool.{both_ways}
 use Rattle.plain.specs.Pools.{Pool, Move, Need, covering, freeing, at_begin, at_over, old_of}
 use Rattle.plain.specs.Boards.{Area}
 use Rattle.plain.proofs.Links.{raised, raised_cases, begin_ordered, over_ordered}
-use Rattle.plain.proofs.Lists.{In, in_none, in_left, in_right}
-use Rattle.plain.proofs.Shape.{Shaped, Somewhere, Two, Moved, Carried, Turned, Owed}
+use Rattle.plain.proofs.Lists.{In, in_left, in_right}
+use Rattle.plain.proofs.Shape.{Shaped, Somewhere, Moved, Carried, Turned, Owed}
 use Rattle.plain.proofs.Books.{books_begin, books_over}
 
 old_at_begin : (m : Move) → old_of (at_begin m) ≡ old_of m
@@ -39,7 +39,7 @@ module _ {size : ℕ} {q : Pool} {stage rank : ℕ → ℕ} (s : Shaped size q s
   begun_somewhere e x (Somewhere.on_list c) = Somewhere.on_list c
   begun_somewhere e x (Somewhere.in_free i) = Somewhere.in_free i
   begun_somewhere e x (Somewhere.in_due i) = Somewhere.in_covered i
-  begun_somewhere e x (Somewhere.in_covered i) = absurd (in_none (subst (In x) e i))
+  begun_somewhere e x (Somewhere.in_covered i) = elim (subst (In x) e i) [ ]
 
   over_somewhere : (x : ℕ) → Somewhere q x → Somewhere (freeing q) x
   over_somewhere x (Somewhere.on_list c) = Somewhere.on_list c

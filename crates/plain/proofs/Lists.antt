@@ -1,11 +1,9 @@
 -- Lists of numbers: what is in one, and lists whose numbers are apart.
 -- Of the numbers 1 to n, a list of some of them that are apart leaves out n less its length. Assumes nothing.
-use Rattle.std.proofs.Common.{◌≡◌, ℕ, zero, suc, ◌+◌, ◌<◌, ◌≤◌, Bool, true, false, not, ◌||◌, eqb, ◌⊎◌, List, [], ◌∷◌, ◌++◌, length, sym, refl, ap, ◌∙◌, inl, inr, arith}
-use Rattle.std.proofs.lemmas.Bool.{cases_eq, cases_Bool, eqb-true, eq-eqb, ne_eqb, or_cases, both_ways}
-use Rattle.plain.specs.Changed.{changed}
+use Rattle.std.proofs.Common.{◌≡◌, ℕ, zero, suc, ◌+◌, ◌<◌, ◌≤◌, Bool, true, false, not, ◌||◌, eqb, ltb, ◌⊎◌, List, [], ◌∷◌, ◌++◌, length, refl, ap, inl, inr, arith}
+use Rattle.std.proofs.lemmas.Bool.{cases_eq, eqb-true, eq-eqb, or_cases, or_left, or_right, lt-ltb, false_from_ne_true}
+use Rattle.std.proofs.lemmas.Bool.Decides.{nat_tests}
 use Rattle.scheme.specs.Counts.{one, count_below}
-use Rattle.plain.proofs.Changed.{changed_at, changed_elsewhere}
-use Rattle.scheme.specs.CountsLemmas.{count_same, count_updated}
 use Rattle.plain.specs.Pools.{upto}
 use Rattle.plain.specs.Waits.{has}
 
@@ -16,9 +14,6 @@ pub data In (x : ℕ) : List ℕ → Type 0 where
 pub data Apart : List ℕ → Type 0 where
   nothing : Apart []
   one_more : {x : ℕ} {xs : List ℕ} → ¬ (In x xs) → Apart xs → Apart (x ∷ xs)
-
-pub in_none : {x : ℕ} → In x [] → ⊥
-in_none m = elim m [ ]
 
 pub in_cases : {x y : ℕ} {ys : List ℕ} → In x (y ∷ ys) → (x ≡ y) ⊎ In x ys
 in_cases (first e) = inl e
@@ -53,12 +48,12 @@ apart_append (one_more {x = x} {xs = xs} n a) b d =
 -- ---- the numbers from i on
 
 pub in_upto : {x : ℕ} (i k : ℕ) → In x (upto i k) → (i ≤ x) × (x < i + k)
-in_upto i zero m = absurd (in_none m)
+in_upto i zero m = elim m [ ]
 in_upto i (suc k) (first e) = (omega arith, omega arith)
 in_upto i (suc k) (later m) = let q = in_upto (suc i) k m in (omega arith, omega arith)
 
 pub upto_in : {x : ℕ} (i k : ℕ) → i ≤ x → x < i + k → In x (upto i k)
-upto_in i zero l h = absurd (let e = h in omega arith)
+upto_in i zero l h = absurd (omega arith)
 upto_in {x} i (suc k) l h = elim (cases_eq x i) [
   | inl e ↦ first e
   | inr n ↦ later (upto_in (suc i) k (omega arith) (omega arith))
@@ -71,18 +66,15 @@ apart_upto i (suc k) = one_more (λ m. let q = in_upto (suc i) k m in omega arit
 -- ---- how many of the numbers 1 to n are left out
 
 has_in : (xs : List ℕ) {x : ℕ} → has xs x ≡ true → In x xs
-has_in [] t = absurd (both_ways false refl t)
+has_in [] t = cc
 has_in (y ∷ ys) {x} t = elim (or_cases (eqb x y) (has ys x) t) [ inl e ↦ first (eqb-true x y e) | inr h ↦ later (has_in ys h) ]
 
 in_has : {x : ℕ} {xs : List ℕ} → In x xs → has xs x ≡ true
-in_has {x} (first {y = y} {ys = ys} e) = ap (λ b. b || has ys x) (eq-eqb x y e)
-in_has {x} (later {y = y} {ys = ys} i) = elim (cases_Bool (eqb x y)) [
-  | inl t ↦ ap (λ b. b || has ys x) t
-  | inr f ↦ ap (λ b. b || has ys x) f ∙ in_has i
-]
+in_has {x} (first {y = y} {ys = ys} e) = or_left (eqb x y) (has ys x) (eq-eqb x y e)
+in_has {x} (later {y = y} {ys = ys} i) = or_right (eqb x y) (has ys x) (in_has i)
 
 has_not : (xs : List ℕ) (x : ℕ) → ¬ (In x xs) → has xs x ≡ false
-has_not xs x n = elim (cases_Bool (has xs x)) [ inl t ↦ absurd (n (has_in xs t)) | inr f ↦ f ]
+has_not xs x n = false_from_ne_true (has xs x) (λ t. n (has_in xs t))
 
 abbrev left_out : List ℕ → ℕ → Bool
 left_out xs i = not (has xs (suc i))
@@ -91,27 +83,22 @@ count_all : (n : ℕ) → count_below (left_out []) n ≡ n
 count_all zero = refl
 count_all (suc n) = let rest = count_all n in let last : one true ≡ 1 = refl in omega arith
 
+one_further : (n x : ℕ) (has : ℕ → Bool) (a b : ℕ) → has (suc x) ≡ false → a + one (ltb x n) ≡ b →
+    a + one (not (eqb (suc n) (suc x) || has (suc n))) + one (ltb x (suc n)) ≡ b + one (not (has (suc n)))
+one_further n x has a b d e = grind (arith, nat_tests)
+
 -- one number more in the list is one less that is left out
-more_in : (n x : ℕ) (xs : List ℕ) → ¬ (In (suc x) xs) → x < n → count_below (left_out (suc x ∷ xs)) n + 1 ≡ count_below (left_out xs) n
-more_in n x xs d l =
-    let same = count_same (left_out (suc x ∷ xs)) (changed (left_out xs) x false) n (λ i h. now i) in
-    let less = count_updated (left_out xs) x n false l in
-    let was : one (left_out xs x) ≡ 1 = ap (λ b. one (not b)) (has_not xs (suc x) d) in
-    let new : one false ≡ 0 = refl in
-    omega arith
-  where
-    now : (i : ℕ) → left_out (suc x ∷ xs) i ≡ changed (left_out xs) x false i
-    now i = elim (cases_eq i x) [
-      | inl e ↦ ap (λ b. not (b || has xs (suc i))) (eq-eqb (suc i) (suc x) (ap suc e)) ∙ sym (changed_at (left_out xs) x i false e)
-      | inr n ↦ ap (λ b. not (b || has xs (suc i))) (ne_eqb (suc i) (suc x) (λ e. n (omega arith))) ∙ sym (changed_elsewhere (left_out xs) x i false n)
-    ]
+more_in : (n x : ℕ) (xs : List ℕ) → has xs (suc x) ≡ false → count_below (left_out (suc x ∷ xs)) n + one (ltb x n) ≡ count_below (left_out xs) n
+more_in zero x xs d = grind (arith, nat_tests)
+more_in (suc n) x xs d = one_further n x (has xs) _ _ d (more_in n x xs d)
 
 pub left_out_count : (n : ℕ) {xs : List ℕ} → Apart xs → ((x : ℕ) → In x xs → (0 < x) × (x ≤ n)) → count_below (λ i. not (has xs (suc i))) n + length xs ≡ n
 left_out_count n nothing h = let all = count_all n in omega arith
 left_out_count n (one_more {x = zero} {xs = xs} d a) h = absurd (let q = h 0 (first refl) in omega arith)
 left_out_count n (one_more {x = suc x} {xs = xs} d a) h =
     let rest = left_out_count n a (λ y i. h y (later i)) in
-    let more = more_in n x xs d (let q = h (suc x) (first refl) in omega arith) in
+    let more = more_in n x xs (has_not xs (suc x) d) in
+    let below : one (ltb x n) ≡ 1 = ap one (lt-ltb x n (let q = h (suc x) (first refl) in omega arith)) in
     omega arith
 
 -- so at most n numbers from 1 to n are apart

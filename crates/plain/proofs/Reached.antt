@@ -4,7 +4,7 @@ use Rattle.std.proofs.Common.{◌≡◌, ℕ, zero, suc, ◌<◌, ◌≤◌, tru
 use Rattle.std.proofs.lemmas.Bool.{eqb-true, eqb-false, cond_both, cond-true, cond-false, eq-eqb, ne_eqb, true≢false}
 use Rattle.plain.specs.Pools.{reached, holder, before, precedes}
 use Rattle.plain.proofs.Links.{Ahead, ahead_ne, next_at, more_at, ahead_from, Ordered, not_ahead_of_itself, ahead_stage}
-use Rattle.plain.proofs.Lists.{In, in_cases, in_none, Apart, few}
+use Rattle.plain.proofs.Lists.{In, in_cases, Apart, few}
 
 -- the nodes ahead of p are these
 pub data Chain (lk : ℕ → ℕ) : ℕ → List ℕ → Type 0 where
@@ -12,7 +12,7 @@ pub data Chain (lk : ℕ → ℕ) : ℕ → List ℕ → Type 0 where
   link : {p y : ℕ} {ys : List ℕ} → lk p ≡ y → y ≢ 0 → Chain lk y ys → Chain lk p (y ∷ ys)
 
 pub chain_ahead : {lk : ℕ → ℕ} {p x : ℕ} {l : List ℕ} → Chain lk p l → In x l → Ahead lk x p
-chain_ahead (stop e) m = absurd (in_none m)
+chain_ahead (stop e) m = elim m [ ]
 chain_ahead (link e n c) m = elim (in_cases m) [
   | inl q ↦ next_at (λ w. n (sym q ∙ w)) (e ∙ sym q)
   | inr i ↦ more_at n e (chain_ahead c i)
@@ -26,7 +26,7 @@ ahead_chain (link e n c) (Ahead.more m a) = In.later (ahead_chain c (ahead_from 
 
 -- the node before x has x behind it
 pub before_links : {lk : ℕ → ℕ} {p x : ℕ} {l : List ℕ} → Chain lk p l → In x l → (lk (before p x l) ≡ x) × ((before p x l ≡ p) ⊎ In (before p x l) l)
-before_links (stop e) m = absurd (in_none m)
+before_links (stop e) m = elim m [ ]
 before_links {lk} {p} {x} (link {y = y} {ys = ys} e n c) m = cond_both (eqb y x) p (before y x ys) (λ b. (lk b ≡ x) × ((b ≡ p) ⊎ In b (y ∷ ys)))
     (λ q. (e ∙ eqb-true y x q, inl refl))
     (λ q. elim (in_cases m) [
@@ -38,7 +38,7 @@ before_links {lk} {p} {x} (link {y = y} {ys = ys} e n c) m = cond_both (eqb y x)
 
 -- of two nodes of the chain, one that does not precede the other is ahead of it
 pub precedes_ahead : {lk : ℕ → ℕ} {p : ℕ} (x y : ℕ) {l : List ℕ} → Chain lk p l → In x l → In y l → x ≢ y → precedes x y l ≡ false → Ahead lk x y
-precedes_ahead x y (stop e) i j d = absurd (in_none i)
+precedes_ahead x y (stop e) i j d = elim i [ ]
 precedes_ahead {lk} x y (link {y = z} {ys = zs} e n c) i j d = cond_both (eqb z y) false (cond (eqb z x) true (precedes x y zs)) (λ b. b ≡ false → Ahead lk x y)
     (λ q f.
     let w : z ≡ y = eqb-true z y q in
@@ -65,7 +65,7 @@ holder_holds keys k (x ∷ xs) = cond_both (eqb (keys x) k) x (holder keys k xs)
     (λ e n. let r = holder_holds keys k xs n in (In.later r.0, r.1))
 
 pub holder_there : (keys : ℕ → ℕ) (k : ℕ) (l : List ℕ) (x : ℕ) → ((y : ℕ) → In y l → y ≢ 0) → In x l → keys x ≡ k → holder keys k l ≢ 0
-holder_there keys k [] x h m e = absurd (in_none m)
+holder_there keys k [] x h m e = elim m [ ]
 holder_there keys k (y ∷ ys) x h m e = cond_both (eqb (keys y) k) y (holder keys k ys) (λ v. v ≢ 0)
     (λ q. h y (In.first refl))
     (λ q. elim (in_cases m) [
@@ -77,9 +77,9 @@ holder_there keys k (y ∷ ys) x h m e = cond_both (eqb (keys y) k) y (holder ke
 
 module _ (lk : ℕ → ℕ) where
   in_reached : (f p : ℕ) {x : ℕ} → In x (reached f lk p) → Ahead lk x p
-  in_reached zero p m = absurd (in_none m)
+  in_reached zero p m = elim m [ ]
   in_reached (suc f) p {x} m = cond_both (eqb (lk p) 0) [] (lk p ∷ reached f lk (lk p)) (λ l. In x l → Ahead lk x p)
-      (λ q j. absurd (in_none j))
+      (λ q j. elim j [ ])
       (λ q j.
       let n = eqb-false (lk p) 0 q in
       elim (in_cases j) [

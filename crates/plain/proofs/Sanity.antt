@@ -7,7 +7,7 @@ use Rattle.plain.specs.Boards.{Board, Area}
 use Rattle.plain.specs.Calls.{Call}
 use Rattle.plain.specs.Refusals.{checks}
 use Rattle.plain.specs.Sanity.{ascending, RefusalsAscend, times, BoardsStayWhole}
-use Rattle.plain.proofs.Lists.{In, in_none, in_cases, Apart}
+use Rattle.plain.proofs.Lists.{In, in_cases, Apart}
 use Rattle.plain.proofs.Reached.{reached_again}
 use Rattle.plain.proofs.Shape.{listed_chain}
 use Rattle.plain.proofs.Counts.{all_apart, placed, listed_few}
@@ -37,7 +37,7 @@ not_at_all x [] n = refl
 not_at_all x (y ∷ ys) n = cond-false (eqb x y) (suc (times x ys)) (times x ys) (ne_eqb x y (λ e. n (In.first e))) ∙ not_at_all x ys (λ i. n (In.later i))
 
 once : (x : ℕ) {xs : List ℕ} → Apart xs → In x xs → times x xs ≡ 1
-once x Apart.nothing i = absurd (in_none i)
+once x Apart.nothing i = elim i [ ]
 once x (Apart.one_more {x = y} {xs = ys} d a) i = elim (cases_eq x y) [
   | inl e ↦ cond-true (eqb x y) (suc (times x ys)) (times x ys) (eq-eqb x y e) ∙ ap suc (ap (λ (z : ℕ). times z ys) e ∙ not_at_all y ys d)
   | inr n ↦ cond-false (eqb x y) (suc (times x ys)) (times x ys) (ne_eqb x y n) ∙ once x a (elim (in_cases i) [ inl e ↦ absurd (n e) | inr j ↦ j ])

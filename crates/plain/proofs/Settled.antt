@@ -40,13 +40,13 @@ after_older P {m = m} a newer older n e r = a (m ∷ newer) older n (ap (λ (g :
 
 -- ---- one moment more
 
-no_any : {P : Moment → Type 0} → Any P [] → ⊥
+pub no_any : {P : Moment → Type 0} → Any P [] → ⊥
 no_any w = elim w [ ]
 
 no_passed : WaitPassed [] → ⊥
 no_passed w = elim w [ ]
 
-any_older : {P : Moment → Type 0} {m : Moment} {h : History} → ¬ (P m) → Any P (m ∷ h) → Any P h
+pub any_older : {P : Moment → Type 0} {m : Moment} {h : History} → ¬ (P m) → Any P (m ∷ h) → Any P h
 any_older n (Any.here p) = absurd (n p)
 any_older n (Any.there s) = s
 

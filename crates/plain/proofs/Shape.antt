@@ -1,6 +1,6 @@
 -- What holds of the pool of every board (Shaped), with the stage of each node: 0 listed, 1 due, 2 covered, 3 free.
 -- What a call may do to a pool, as far as a reader can tell (Turned). Assumes nothing.
-use Rattle.std.proofs.Common.{◌≡◌, ℕ, ◌<◌, ◌≤◌, Bool, true, false, not, eqb, ◌≢◌, ◌⊎◌, sym, ap, subst, arith}
+use Rattle.std.proofs.Common.{◌≡◌, ℕ, ◌<◌, ◌≤◌, Bool, true, false, not, eqb, ◌≢◌, ◌⊎◌, ap, arith}
 use Rattle.std.proofs.lemmas.Bool.{both_ways, eqb-false, ne_eqb, not-true}
 use Rattle.plain.specs.Pools.{Pool, Move, Need, link_of, reached, holder, old_of}
 use Rattle.plain.specs.Boards.{Area, record_at}

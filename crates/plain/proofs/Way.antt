@@ -8,7 +8,7 @@ use Rattle.plain.specs.History.{Moment, History, Every}
 use Rattle.plain.specs.Sightings.{Leaves}
 use Rattle.plain.specs.Walks.{StepsOnKey, Listed}
 use Rattle.plain.proofs.Links.{Ahead, ahead_ne, ahead_from, ahead_to, ahead_stage, not_ahead_of_itself, more_at, next_at}
-use Rattle.plain.proofs.Lists.{In, in_cases, in_none, Apart}
+use Rattle.plain.proofs.Lists.{In, in_cases, Apart}
 use Rattle.plain.proofs.Shape.{Guarded, Carried, Turned, Owed, owed_two, node_there, there, listed_stage}
 use Rattle.plain.proofs.Follows.{Fine, Follows}
 use Rattle.plain.proofs.Sightings.{guarded_ahead}
@@ -39,8 +39,8 @@ module _ {b : Board} {stage rank : ℕ → ℕ} (f : Fine b stage rank) where
   pub way_starts : (r : ℕ) (m : Moment) → m.board ≡ b → Way b stage r (m ∷ []) 0 []
   way_starts r m e = record {
     apart = Apart.nothing;
-    live = λ x i. absurd (in_none i);
-    clear = λ x i. absurd (in_none i);
+    live = λ x i. elim i [ ];
+    clear = λ x i. elim i [ ];
     honest = λ z a. Any.here (subst (λ (d : Board). is_listed d (key_of b z) ≡ true) (sym e) (is_there z a));
     complete = λ k ev. inr (listed_at k (subst (λ (d : Board). is_listed d k ≡ true) e ev.0));
     copies = λ c w. inr (owed_listed (b.who.awaited r) c w);

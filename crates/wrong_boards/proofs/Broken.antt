@@ -1,6 +1,5 @@
 -- For each wrong board a short use, and the law that does not hold after it. Assumes nothing.
 use Rattle.std.proofs.Common.{◌≡◌, ◌≤◌, [], ◌∷◌, refl, arith}
-use Rattle.std.proofs.lemmas.Bool.{false≢true}
 use Rattle.scheme.specs.Meaning.{anybody}
 use Rattle.scheme.specs.Histories.{Any, Since}
 use Rattle.plain.specs.Calls.{Call.enter, Call.from, Call.step, Call.cut, Call.move, Call.finish, Call.tend}
@@ -9,17 +8,18 @@ use Rattle.plain.specs.Sightings.{StepsOn, Sights, SightingsAgree}
 use Rattle.plain.specs.Walks.{Walking, Walked, WalksAreShort, WalksAreComplete, WalksAreHonest}
 use Rattle.plain.specs.Waits.{WaitPassed, counts, CountsSettle, WaitsEndInTime}
 use Rattle.plain.proofs.Events.{not_removal}
-use Rattle.plain.proofs.Settled.{after_none, after_more}
+use Rattle.plain.specs.Flights.{place}
+use Rattle.plain.proofs.Settled.{any_older, no_any, after_none, after_more}
 use Rattle.wrong_boards.specs.Wrong
 use Rattle.wrong_boards.specs.Breaks.{Breaks, WrongBoardsBreakLaws}
-use Rattle.wrong_boards.proofs.Uses.{new_use, used, breaks, place, none, older, no_visit, visit_older, goes_on, past, past_seen, no_step, other_key, end_no_key}
+use Rattle.wrong_boards.proofs.Uses.{new_use, used, breaks, visit_older, goes_on, past, past_seen, no_step, other_key, end_no_key}
 
 -- the wait begins with no visit under way, and the next tend does not find it over
 never_over : Breaks Wrong.never_over (λ b. WaitsEndInTime)
 unfolding anybody
 never_over = breaks _ _ (used Wrong.never_over (new_use Wrong.never_over 1 refl) (place 5 0 ∷ cut 5 ∷ tend ∷ tend ∷ []))
     (λ held.
-    let over = (held _ _ [] _ refl refl (refl, refl) none).1 (λ r v. absurd (no_visit (visit_older r (λ e. cc) (visit_older r (λ e. cc) v)))) in
+    let over = (held _ _ [] _ refl refl (refl, refl) no_any).1 (λ r v. elim (visit_older r (λ e. cc) (visit_older r (λ e. cc) v)) [ ]) in
     let said = over.said in
     cc)
 
@@ -28,7 +28,7 @@ never_tells : Breaks Wrong.never_tells (λ b. WaitsEndInTime)
 unfolding anybody
 never_tells = breaks _ _ (used Wrong.never_tells (new_use Wrong.never_tells 1 refl) (place 5 0 ∷ cut 5 ∷ tend ∷ tend ∷ []))
     (λ held.
-    let over = (held _ _ [] _ refl refl (refl, refl) none).1 (λ r v. absurd (no_visit (visit_older r (λ e. cc) (visit_older r (λ e. cc) v)))) in
+    let over = (held _ _ [] _ refl refl (refl, refl) no_any).1 (λ r v. elim (visit_older r (λ e. cc) (visit_older r (λ e. cc) v)) [ ]) in
     let said = over.said in
     cc)
 
@@ -36,7 +36,7 @@ never_tells = breaks _ _ (used Wrong.never_tells (new_use Wrong.never_tells 1 re
 awaits_nobody : Breaks Wrong.awaits_nobody (λ b. WaitsEndInTime)
 unfolding anybody
 awaits_nobody = breaks _ _ (used Wrong.awaits_nobody (new_use Wrong.awaits_nobody 1 refl) (place 5 0 ∷ enter 0 ∷ cut 5 ∷ tend ∷ tend ∷ []))
-    (λ held. none ((held _ _ [] _ refl refl (refl, refl) none).0 (record { count = 1; asked = refl; said = refl }) 0 (goes_on (λ e. cc) (Since.starts (refl, refl)))))
+    (λ held. no_any ((held _ _ [] _ refl refl (refl, refl) no_any).0 (record { count = 1; asked = refl; said = refl }) 0 (goes_on (λ e. cc) (Since.starts (refl, refl)))))
 
 -- reader 0 sights node 2 with stamp 2, then, in the same visit, with stamp 3: it was removed after the wait began, and filled again
 frees_due : Breaks Wrong.frees_due (λ b. SightingsAgree)
@@ -63,14 +63,14 @@ repeats_stamp = breaks _ _ (used Wrong.repeats_stamp (new_use Wrong.repeats_stam
 -- from node 2, which is cut, the walk goes on to node 1 with key 5, which was cut before the walk
 chains_by_link : Breaks Wrong.chains_by_link (λ b. WalksAreHonest)
 chains_by_link = breaks _ _ (used Wrong.chains_by_link (new_use Wrong.chains_by_link 3 refl) (place 5 0 ∷ cut 5 ∷ place 6 0 ∷ enter 0 ∷ from 0 0 ∷ step 0 ∷ cut 6 ∷ step 0 ∷ []))
-    (λ held. none (older false≢true (older false≢true (older false≢true (older false≢true (held 0 5 _ (_ ∷ _ ∷ _ ∷ []) _ refl
+    (λ held. no_any (any_older (λ e. cc) (any_older (λ e. cc) (any_older (λ e. cc) (any_older (λ e. cc) (held 0 5 _ (_ ∷ _ ∷ _ ∷ []) _ refl
     (past (λ k e. cc) (λ e. cc) (λ e. cc) (past_seen 2 2 6 refl refl (Walking.starts (record { wanted = 0; asked = refl; granted = refl }))))
     (record { sighting = _; on = StepsOn.by_seen 1 1 5 refl refl; key = refl })))))))
 
 -- key 9 is listed all the while: its old node is ahead of reader 0 until it goes, and its copy behind
 moves_without_wait : Breaks Wrong.moves_without_wait (λ b. WalksAreComplete)
 moves_without_wait = breaks _ _ (used Wrong.moves_without_wait (new_use Wrong.moves_without_wait 3 refl) (place 7 0 ∷ place 9 7 ∷ enter 0 ∷ from 0 0 ∷ step 0 ∷ move 9 0 ∷ finish ∷ step 0 ∷ []))
-    (λ held. none (older (no_step 9 (λ e. cc)) (older (other_key 1 1 7 9 refl (λ e. omega arith)) (older (no_step 9 (λ e. cc)) (older (no_step 9 (λ e. cc)) (older (end_no_key 9 refl)
+    (λ held. no_any (any_older (no_step 9 (λ e. cc)) (any_older (other_key 1 1 7 9 refl (λ e. omega arith)) (any_older (no_step 9 (λ e. cc)) (any_older (no_step 9 (λ e. cc)) (any_older (end_no_key 9 refl)
     (held 0 9 _ (_ ∷ _ ∷ _ ∷ _ ∷ []) _ refl
     (past (λ k e. cc) (λ e. cc) (λ e. cc) (past (λ k e. cc) (λ e. cc) (λ e. cc) (past_seen 1 1 7 refl refl (Walking.starts (record { wanted = 0; asked = refl; granted = refl })))))
     (refl, refl) (refl, (refl, (refl, (refl, (refl, tt))))))))))))
@@ -78,7 +78,7 @@ moves_without_wait = breaks _ _ (used Wrong.moves_without_wait (new_use Wrong.mo
 -- the list has key 5 all the while, and the walk ends at once
 always_ends : Breaks Wrong.always_ends (λ b. WalksAreComplete)
 always_ends = breaks _ _ (used Wrong.always_ends (new_use Wrong.always_ends 1 refl) (place 5 0 ∷ enter 0 ∷ from 0 0 ∷ step 0 ∷ []))
-    (λ held. none (older (no_step 5 (λ e. cc)) (older (end_no_key 5 refl)
+    (λ held. no_any (any_older (no_step 5 (λ e. cc)) (any_older (end_no_key 5 refl)
     (held 0 5 _ (_ ∷ []) _ refl (Walking.starts (record { wanted = 0; asked = refl; granted = refl })) (refl, refl) (refl, (refl, tt))))))
 
 -- three steps on a board of one node

@@ -29,20 +29,6 @@ used play u (c ∷ cs) =
 pub breaks : (play : Play) (Law : Board → History → Type 0) (u : Use play) → ¬ (Law u.board u.history) → Breaks play Law
 breaks play Law u n = record { history = u.history; board = u.board; area = u.area; run = u.run; broken = n }
 
--- a put of a parameter
-abbrev pub place : ℕ → ℕ → Call
-place k a = Call.put k a (pos 5) (pos 5) (pos 5) (pos 5)
-
-pub none : {P : Moment → Type 0} → Any P [] → ⊥
-none a = elim a [ ]
-
-pub older : {P : Moment → Type 0} {m : Moment} {h : History} → ¬ (P m) → Any P (m ∷ h) → Any P h
-older n (Any.here p) = absurd (n p)
-older n (Any.there a) = a
-
-pub no_visit : {r : ℕ} → Visiting r [] → ⊥
-no_visit v = elim v [ ]
-
 pub visit_older : (r : ℕ) {m : Moment} {h : History} → ¬ (Enters r m) → Visiting r (m ∷ h) → Visiting r h
 visit_older r n (Since.starts e) = absurd (n e)
 visit_older r n (Since.goes_on l v) = v

@@ -1,5 +1,5 @@
 -- Boards with one fault each, made from the plain board. Assumes nothing.
-use Rattle.std.specs.Prelude.{Bool, cond, not, ◌&&◌, [], ◌++◌, length, nat_lt}
+use Rattle.std.specs.Prelude.{Bool, not, ◌&&◌, [], ◌++◌, length, nat_lt, if◌then◌else◌}
 use Rattle.scheme.specs.Meaning.{Meaning, nobody}
 use Rattle.plain.specs.Changed.{changed}
 use Rattle.record.specs.Pars.{par_making}
@@ -29,14 +29,14 @@ began_earlier_move b res = not (under_way b.pool.move) && needs_begin res.board.
 
 -- the result, but with this pool, or this meaning of the scheme
 abbrev pub but_pool : Pool → Result → Result
-but_pool q res = record { answer = res.answer; board = with_pool q res.board; area = res.area }
+but_pool q res = record res { board = with_pool q res.board }
 
 abbrev pub but_who : Meaning → Result → Result
-but_who w res = record { answer = res.answer; board = with_who w res.board; area = res.area }
+but_who w res = record res { board = with_who w res.board }
 
 -- the plain board for parameters, with each result in which the fault shows spoiled
 abbrev pub spoiled : (Board → Result → Bool) → (Board → Result → Result) → Play
-spoiled shows spoil b area c = let res = result par_making b area c in cond (shows b res) (spoil b res) res
+spoiled shows spoil b area c = let res = result par_making b area c in if shows b res then spoil b res else res
 
 -- ---- the boards
 
@@ -46,25 +46,23 @@ never_over = spoiled ended_wait (λ b res. unchanged b res.area Answer.waiting)
 
 -- a wait awaits nobody, so the next tend finds it over
 abbrev pub awaits_nobody : Play
-awaits_nobody = spoiled began_wait (λ b res. but_who (record { inside = res.board.who.inside; waits = res.board.who.waits; awaited = nobody }) res)
+awaits_nobody = spoiled began_wait (λ b res. but_who (record res.board.who { awaited = nobody }) res)
 
 -- nodes that were removed after a wait began are freed with those that it covers
 abbrev pub frees_due : Play
 frees_due = spoiled ended_wait (λ b res.
     let q = res.board.pool in
-    but_pool (record { front = q.front; link = q.link; key = q.key; stamp = q.stamp; free = q.due ++ q.free; due = []; covered = []; next_stamp = q.next_stamp; move = q.move }) res)
+    but_pool (record q { free = q.due ++ q.free; due = []; covered = [] }) res)
 
 -- each placing gets the same stamp
 abbrev pub repeats_stamp : Play
-repeats_stamp = spoiled placed_node (λ b res.
-    let q = res.board.pool in
-    but_pool (record { front = q.front; link = q.link; key = q.key; stamp = q.stamp; free = q.free; due = q.due; covered = q.covered; next_stamp = b.pool.next_stamp; move = q.move }) res)
+repeats_stamp = spoiled placed_node (λ b res. but_pool (record res.board.pool { next_stamp = b.pool.next_stamp }) res)
 
 -- removed nodes are chained through the link that readers follow
 abbrev pub chains_by_link : Play
 chains_by_link = spoiled removed_node (λ b res.
     let q = res.board.pool in
-    but_pool (record { front = q.front; link = changed q.link (head_or_0 q.due) (head_or_0 b.pool.due); key = q.key; stamp = q.stamp; free = q.free; due = q.due; covered = q.covered; next_stamp = q.next_stamp; move = q.move }) res)
+    but_pool (record q { link = changed q.link (head_or_0 q.due) (head_or_0 b.pool.due) }) res)
 
 -- an earlier move counts as having had its wait
 abbrev pub moves_without_wait : Play
@@ -75,13 +73,11 @@ abbrev pub links_to_itself : Play
 links_to_itself = spoiled placed_node (λ b res.
     let q = res.board.pool in
     let new = head_or_0 b.pool.free in
-    but_pool (record { front = q.front; link = changed q.link new new; key = q.key; stamp = q.stamp; free = q.free; due = q.due; covered = q.covered; next_stamp = q.next_stamp; move = q.move }) res)
+    but_pool (record q { link = changed q.link new new }) res)
 
 -- the due chain is dropped as a wait begins
 abbrev pub loses_nodes : Play
-loses_nodes = spoiled began_wait (λ b res.
-    let q = res.board.pool in
-    but_pool (record { front = q.front; link = q.link; key = q.key; stamp = q.stamp; free = q.free; due = q.due; covered = []; next_stamp = q.next_stamp; move = q.move }) res)
+loses_nodes = spoiled began_wait (λ b res. but_pool (record res.board.pool { covered = [] }) res)
 
 -- the scheme is not told who enters, who leaves, and when a wait begins
 abbrev pub never_tells : Play
@@ -90,14 +86,4 @@ never_tells b area c = but_who b.who (result par_making b area c)
 -- every step is the last
 abbrev pub always_ends : Play
 always_ends b area (Call.step r) = checked (checks par_making b area (Call.step r)) (stands b area r at_rest Answer.end) (λ number field. unchanged b area (Answer.refused number field))
-always_ends b area (Call.enter r) = result par_making b area (Call.enter r)
-always_ends b area (Call.leave r) = result par_making b area (Call.leave r)
-always_ends b area (Call.look r) = result par_making b area (Call.look r)
-always_ends b area (Call.from r k) = result par_making b area (Call.from r k)
-always_ends b area (Call.aside r k) = result par_making b area (Call.aside r k)
-always_ends b area (Call.put k a v w x y) = result par_making b area (Call.put k a v w x y)
-always_ends b area (Call.swap k v w x y) = result par_making b area (Call.swap k v w x y)
-always_ends b area (Call.cut k) = result par_making b area (Call.cut k)
-always_ends b area (Call.move k a) = result par_making b area (Call.move k a)
-always_ends b area Call.finish = result par_making b area Call.finish
-always_ends b area Call.tend = result par_making b area Call.tend
+always_ends b area c = result par_making b area c
