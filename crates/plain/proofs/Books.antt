@@ -62,15 +62,15 @@ module _ {size : ℕ} {q q' : Pool} {stage : ℕ → ℕ} {y : ℕ} (k : Books s
       apart : (x z : ℕ) → x ≢ 0 → z ≢ 0 → changed stage y 0 x < 3 → changed stage y 0 z < 3 → q'.stamp x ≡ q'.stamp z → x ≡ z
       apart x z nx nz lx lz e = elim (cases_eq x y) [
         | inl p ↦ elim (cases_eq z y) [
-          | inl r ↦ p ∙ sym r
-          | inr r ↦ absurd (new_alone z r (sym e ∙ ap (λ (v : ℕ). q'.stamp v) p ∙ f.stamp_new))
+          | inl r ↦ cc
+          | inr r ↦ absurd (new_alone z r (cc))
         ]
         | inr p ↦ elim (cases_eq z y) [
-          | inl r ↦ absurd (new_alone x p (e ∙ ap (λ (v : ℕ). q'.stamp v) r ∙ f.stamp_new))
+          | inl r ↦ absurd (new_alone x p (cc))
           | inr r ↦
               let ex = changed_elsewhere stage y x 0 p in
               let ez = changed_elsewhere stage y z 0 r in
-              k.stamps_apart x z nx nz (omega arith) (omega arith) (sym (f.stamp_old x p) ∙ e ∙ f.stamp_old z r)
+              k.stamps_apart x z nx nz (omega arith) (omega arith) (cc (f.stamp_old x p, f.stamp_old z r))
         ]
       ]
 
@@ -96,11 +96,11 @@ module _ {size : ℕ} {q q' : Pool} {stage : ℕ → ℕ} {x : ℕ} (k : Books s
     apart_due = subst Apart (sym f.due) (Apart.one_more (λ i. let r = k.in_due x i in omega arith) k.apart_due);
     apart_covered = subst Apart (sym f.covered) k.apart_covered;
     stamps_below = λ z. let e = f.stamp z in let n = f.next_stamp in let b = k.stamps_below z in omega arith;
-    stamps_apart = λ u v nu nv lu lv e. k.stamps_apart u v nu nv (live u lu) (live v lv) (sym (f.stamp u) ∙ e ∙ f.stamp v);
+    stamps_apart = λ u v nu nv lu lv e. k.stamps_apart u v nu nv (live u lu) (live v lv) (cc (f.stamp u, f.stamp v));
   }
     where
       other : (z : ℕ) → stage z ≢ 0 → changed stage x 1 z ≡ stage z
-      other z n = changed_elsewhere stage x z 1 (λ e. n (ap stage e ∙ kx))
+      other z n = changed_elsewhere stage x z 1 (λ e. n (cc))
 
       live : (z : ℕ) → changed stage x 1 z < 3 → stage z < 3
       live z l = elim (cases_eq z x) [

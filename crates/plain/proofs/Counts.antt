@@ -56,7 +56,7 @@ module _ {size : ℕ} {q : Pool} {stage rank : ℕ → ℕ} (s : Shaped size q s
     | inl j ↦ list_in_range x j
     | inr j ↦
         let k = in_off x j in
-        let n : x ≢ 0 = λ e. k.0 (ap stage e ∙ s.ordered.head) in
+        let n : x ≢ 0 = λ e. k.0 (cc) in
         (omega arith, k.1)
   ]
 

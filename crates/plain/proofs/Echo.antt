@@ -132,7 +132,7 @@ pub waits_end_in_time : (making : Making) {h : History} {b : Board} {a : Area} �
 waits_end_in_time making (Run.made m n s area made) m₁ start newer older e t k not_over = absurd (no_moment e)
 waits_end_in_time making (Run.called {h = h} {b = b} {area = a} run c) m₁ start newer older e t k not_over =
     let here : moment c (result making b a c) ≡ m₁ = same_newest e in
-    let call : c ≡ Call.tend = ap (λ (m : Moment). m.call) here ∙ t in
+    let call : c ≡ Call.tend = cc in
     let before : h ≡ newer ++ start ∷ older = same_older e in
     subst (λ (m : Moment). FindsOver m ↔ AllGone newer older) here
     (subst (λ (d : Call). FindsOver (moment d (result making b a d)) ↔ AllGone newer older) (sym call)

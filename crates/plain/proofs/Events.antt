@@ -105,7 +105,7 @@ not_told {b} {m} quiet who = record {
 }
   where
     not_by : (c : Call) → telling c ≡ true → m.call ≡ c → ⊥
-    not_by c t e = both_ways (telling c) (ap telling (sym e) ∙ quiet) t
+    not_by c t e = both_ways (telling c) (cc (quiet)) t
 
 pub not_removal : {m : Moment} → removing m.call ≡ false → Removes m → ⊥
 not_removal {m} keeps (Removes.by_cut k n s e q) = both_ways (removing m.call) keeps (ap removing e)

@@ -60,7 +60,7 @@ module _ {b : Board} {stage rank : ℕ → ℕ} (f : Fine b stage rank) (a : Are
       sound = f.sound;
       few = f.few;
       rests = λ r i. (t.turned (b.who.awaited r)).guards (b.slots r).place (f.rests r i);
-      idle = λ e. t.covered ∙ f.idle e;
+      idle = λ e. cc (f.idle e);
     };
     sized = refl;
     stays = λ r i n. i;
@@ -109,9 +109,9 @@ module _ {b : Board} {stage rank : ℕ → ℕ} (f : Fine b stage rank) (a : Are
         | inr n ↦
             let o = same u n in
             subst (λ (z : Slot). Guarded stage (w.awaited u) z.place) (sym (changed_elsewhere b.slots r u at_rest n))
-            (subst (λ (v : Bool). Guarded stage v (b.slots u).place) (sym o.1) (f.rests u (sym o.0 ∙ i)))
+            (subst (λ (v : Bool). Guarded stage v (b.slots u).place) (sym o.1) (f.rests u (cc)))
       ];
-      idle = λ e. f.idle (sym waits ∙ e);
+      idle = λ e. f.idle (cc);
     };
     sized = refl;
     stays = λ u i n. (same u (other u i n)).0 ∙ i;
@@ -123,7 +123,7 @@ module _ {b : Board} {stage rank : ℕ → ℕ} (f : Fine b stage rank) (a : Are
       subst (λ (w : Meaning). Follows b a stage (record { call = Call.enter r; answer = Answer.done; board = with_who w (with_slot r at_rest b); area = a })) (sym in_now)
       (reader_turns (Call.enter r) r (entered b.who r) (subst Sound in_now (enter_sound r b.who f.sound)) refl
       (λ u n. (changed_elsewhere b.who.inside r u true n, changed_elsewhere b.who.awaited r u false n))
-      (λ u i n e. both_ways (b.who.inside r) out (ap b.who.inside (sym e) ∙ i)))
+      (λ u i n e. both_ways (b.who.inside r) out (cc)))
     where
       in_now : (on_enter r b.who).next ≡ entered b.who r
       in_now = cond-true (may_enter r b.who) (entered b.who r) b.who (and_from (ltb r 16) (not (b.who.inside r)) (lt-ltb r 16 (let k = f.few in omega arith)) (not_from_false (b.who.inside r) out))

@@ -51,7 +51,7 @@ module _ {size : ℕ} {q : Pool} {stage rank : ℕ → ℕ} (s : Shaped size q s
   begin_shaped e = record {
     ordered = begin_ordered s.ordered;
     books = books_begin s.books;
-    keys_apart = λ x y ax ay nx ny k. s.keys_apart x y ax ay (λ w. nx (w ∙ sym (old_at_begin q.move))) (λ w. ny (w ∙ sym (old_at_begin q.move))) k;
+    keys_apart = λ x y ax ay nx ny k. s.keys_apart x y ax ay (λ w. nx (cc (old_at_begin q.move))) (λ w. ny (cc (old_at_begin q.move))) k;
     moved = moved_begin q q.move s.moved;
     somewhere = λ x n l. begun_somewhere e x (s.somewhere x n l);
   }
@@ -60,7 +60,7 @@ module _ {size : ℕ} {q : Pool} {stage rank : ℕ → ℕ} (s : Shaped size q s
   over_shaped = record {
     ordered = over_ordered s.ordered;
     books = books_over s.books;
-    keys_apart = λ x y ax ay nx ny e. s.keys_apart x y ax ay (λ w. nx (w ∙ sym (old_at_over q.move))) (λ w. ny (w ∙ sym (old_at_over q.move))) e;
+    keys_apart = λ x y ax ay nx ny e. s.keys_apart x y ax ay (λ w. nx (cc (old_at_over q.move))) (λ w. ny (cc (old_at_over q.move))) e;
     moved = moved_over q q.move s.moved;
     somewhere = λ x n l. over_somewhere x (s.somewhere x n l);
   }

@@ -11,10 +11,10 @@ pub data Ahead (lk : ℕ → ℕ) (z : ℕ) : ℕ → Type 0 where
   more : {x : ℕ} → lk x ≢ 0 → Ahead lk z (lk x) → Ahead lk z x
 
 pub next_at : {lk : ℕ → ℕ} {z x : ℕ} → z ≢ 0 → lk x ≡ z → Ahead lk z x
-next_at n e = next (λ q. n (sym e ∙ q)) e
+next_at n e = next (λ q. n (cc)) e
 
 pub more_at : {lk : ℕ → ℕ} {z x y : ℕ} → y ≢ 0 → lk x ≡ y → Ahead lk z y → Ahead lk z x
-more_at {lk} {z} n e a = more (λ q. n (sym e ∙ q)) (subst (Ahead lk z) (sym e) a)
+more_at {lk} {z} n e a = more (λ q. n (cc)) (subst (Ahead lk z) (sym e) a)
 
 pub ahead_ne : {lk : ℕ → ℕ} {z x : ℕ} → Ahead lk z x → z ≢ 0
 ahead_ne (next n e) q = n (e ∙ q)
@@ -37,7 +37,7 @@ ahead_trans (more n a) b = more n (ahead_trans a b)
 
 -- the same links, the same nodes ahead
 pub ahead_same : {lk lk' : ℕ → ℕ} {z x : ℕ} → ((y : ℕ) → lk' y ≡ lk y) → Ahead lk z x → Ahead lk' z x
-ahead_same {x} s (next n e) = next (λ q. n (sym (s x) ∙ q)) (s x ∙ e)
+ahead_same {x} s (next n e) = next (λ q. n (cc (s x))) (s x ∙ e)
 ahead_same {x} s (more n a) = more_at n (s x) (ahead_same s a)
 
 -- stage 0 is listed (and place 0), 1 due, 2 covered, 3 free; rank falls along links
@@ -86,33 +86,33 @@ module _ {lk lk' stage rank : ℕ → ℕ} (o : Ordered lk stage rank) (p y : �
 
   pub splice_fwd : {z x : ℕ} → stage x < 3 → Ahead lk z x → Ahead lk' z x
   splice_fwd {z} {x} l (next n e) = elim (cases_eq x p) [
-    | inl q ↦ more_at y_ne (ap lk' q ∙ s.at_p) (next_at (λ w. n (e ∙ w)) (s.at_y ∙ ap lk (sym q) ∙ e))
+    | inl q ↦ more_at y_ne (cc) (next_at (λ w. n (e ∙ w)) (cc))
     | inr q ↦ next_at (λ w. n (e ∙ w)) (s.rest x q (live_ne x l) ∙ e)
   ]
   splice_fwd {z} {x} l (more n a) =
       let d = o.down x l in
       let b = splice_fwd (omega arith) a in
       elim (cases_eq x p) [
-        | inl q ↦ more_at y_ne (ap lk' q ∙ s.at_p) (more_at n (s.at_y ∙ ap lk (sym q)) b)
+        | inl q ↦ more_at y_ne (cc) (more_at n (cc) b)
         | inr q ↦ more_at n (s.rest x q (live_ne x l)) b
       ]
 
   splice_back_both : {z x : ℕ} → Ahead lk' z x → (x ≡ y → (z ≡ y) ⊎ Ahead lk z p) × (stage x < 3 → (z ≡ y) ⊎ Ahead lk z x)
   splice_back_both {z} {x} (next n e) = (
-    (λ q. inr (next_at (λ w. n (e ∙ w)) (sym s.at_y ∙ ap lk' (sym q) ∙ e))),
+    (λ q. inr (next_at (λ w. n (e ∙ w)) (cc))),
     (λ l. elim (cases_eq x p) [
-      | inl q ↦ inl (sym e ∙ ap lk' q ∙ s.at_p)
-      | inr q ↦ inr (next_at (λ w. n (e ∙ w)) (sym (s.rest x q (live_ne x l)) ∙ e))
+      | inl q ↦ inl (cc)
+      | inr q ↦ inr (next_at (λ w. n (e ∙ w)) (cc (s.rest x q (live_ne x l))))
     ]),
   )
   splice_back_both {z} {x} (more n a) = let b = splice_back_both a in (
     (λ q.
-        let v : lk p ≡ lk' x = sym s.at_y ∙ ap lk' (sym q) in
+        let v : lk p ≡ lk' x = cc in
         let d = o.down p (omega arith) in
         let l : stage (lk' x) < 3 = subst (λ (w : ℕ). stage w < 3) v (omega arith) in
         elim (b.1 l) [ inl e ↦ inl e | inr c ↦ inr (more_at n v c) ]),
     (λ l. elim (cases_eq x p) [
-      | inl q ↦ elim (b.0 (ap lk' q ∙ s.at_p)) [ inl e ↦ inl e | inr c ↦ inr (ahead_from (sym q) c) ]
+      | inl q ↦ elim (b.0 (cc)) [ inl e ↦ inl e | inr c ↦ inr (ahead_from (sym q) c) ]
       | inr q ↦
           let v : lk x ≡ lk' x = sym (s.rest x q (live_ne x l)) in
           let d = o.down x l in
@@ -126,7 +126,7 @@ module _ {lk lk' stage rank : ℕ → ℕ} (o : Ordered lk stage rank) (p y : �
 
   -- the stages and ranks with y listed
   pub splice_ordered : Ordered lk' (changed stage y 0) (changed (λ x. 2 * rank x + 2) y (2 * rank p + 1))
-  splice_ordered = record { head = changed_elsewhere stage y 0 0 (λ e. y_ne (sym e)) ∙ o.head; falls = falls'; down = down'; single = single' }
+  splice_ordered = record { head = cc (changed_elsewhere stage y 0 0 (λ e. y_ne (sym e))); falls = falls'; down = down'; single = single' }
     where
       stage' : ℕ → ℕ
       stage' = changed stage y 0
@@ -143,7 +143,7 @@ module _ {lk lk' stage rank : ℕ → ℕ} (o : Ordered lk stage rank) (p y : �
       falls' : (x : ℕ) → stage' x < 3 → lk' x ≢ 0 → rank' (lk' x) < rank' x
       falls' x l n = elim (cases_eq x y) [
         | inl q ↦
-            let v : lk' x ≡ lk p = ap lk' q ∙ s.at_y in
+            let v : lk' x ≡ lk p = cc in
             let n' : lk p ≢ 0 = λ w. n (v ∙ w) in
             let f = o.falls p (omega arith) n' in
             let d = o.down p (omega arith) in
@@ -154,7 +154,7 @@ module _ {lk lk' stage rank : ℕ → ℕ} (o : Ordered lk stage rank) (p y : �
             let a = changed_elsewhere (λ z. 2 * rank z + 2) y x (2 * rank p + 1) q in
             elim (cases_eq x p) [
               | inl e ↦
-                  let v : lk' x ≡ y = ap lk' e ∙ s.at_p in
+                  let v : lk' x ≡ y = cc in
                   let b = changed_at (λ z. 2 * rank z + 2) y y (2 * rank p + 1) refl in
                   let r : rank x ≡ rank p = ap rank e in
                   subst (λ (w : ℕ). rank' w < rank' x) (sym v) (omega arith)
@@ -172,7 +172,7 @@ module _ {lk lk' stage rank : ℕ → ℕ} (o : Ordered lk stage rank) (p y : �
       down' : (x : ℕ) → stage' x < 3 → stage' (lk' x) ≤ stage' x
       down' x l = elim (cases_eq x y) [
         | inl q ↦
-            let v : lk' x ≡ lk p = ap lk' q ∙ s.at_y in
+            let v : lk' x ≡ lk p = cc in
             let d = o.down p (omega arith) in
             let b = changed_elsewhere stage y (lk p) 0 (live_ne (lk p) (omega arith)) in
             subst (λ (w : ℕ). stage' w ≤ stage' x) (sym v) (omega arith)
@@ -180,7 +180,7 @@ module _ {lk lk' stage rank : ℕ → ℕ} (o : Ordered lk stage rank) (p y : �
             let a = changed_elsewhere stage y x 0 q in
             elim (cases_eq x p) [
               | inl e ↦
-                  let v : lk' x ≡ y = ap lk' e ∙ s.at_p in
+                  let v : lk' x ≡ y = cc in
                   let b = changed_at stage y y 0 refl in
                   subst (λ (w : ℕ). stage' w ≤ stage' x) (sym v) (omega arith)
               | inr e ↦
@@ -198,13 +198,13 @@ module _ {lk lk' stage rank : ℕ → ℕ} (o : Ordered lk stage rank) (p y : �
         | inl q ↦ q
         | inr q ↦ elim (cases_eq b y) [
           | inl w ↦
-              let v : lk p ≡ y = sym s.at_y ∙ ap lk' (sym w) ∙ e in
+              let v : lk p ≡ y = cc in
               let d = o.down p (omega arith) in
               absurd (live_ne (lk p) (omega arith) v)
           | inr w ↦
               let l : stage b < 3 = live' b w (omega arith) in
               let d = o.down b l in
-              absurd (live_ne (lk b) (omega arith) (sym (s.rest b q w) ∙ e))
+              absurd (live_ne (lk b) (omega arith) (cc (s.rest b q w)))
         ]
       ]
 
@@ -212,31 +212,31 @@ module _ {lk lk' stage rank : ℕ → ℕ} (o : Ordered lk stage rank) (p y : �
       to_after b w kb e n = elim (cases_eq b p) [
         | inl q ↦
             let d = o.down p (omega arith) in
-            live_ne (lk p) (omega arith) (sym e ∙ ap lk' q ∙ s.at_p)
+            live_ne (lk p) (omega arith) (cc)
         | inr q ↦
             let v : lk' b ≡ lk b = s.rest b q w in
             let kb' = changed_elsewhere stage y b 0 w in
-            q (o.single b p (omega arith) kp (sym v ∙ e) (λ z. n (v ∙ z)))
+            q (o.single b p (omega arith) kp (cc) (λ z. n (v ∙ z)))
       ]
 
       single' : (a b : ℕ) → stage' a ≡ 0 → stage' b ≡ 0 → lk' a ≡ lk' b → lk' a ≢ 0 → a ≡ b
       single' a b ka kb e n = elim (cases_eq a y) [
         | inl q ↦ elim (cases_eq b y) [
-          | inl w ↦ q ∙ sym w
-          | inr w ↦ absurd (to_after b w kb (sym e ∙ ap lk' q ∙ s.at_y) (λ z. n (e ∙ z)))
+          | inl w ↦ cc
+          | inr w ↦ absurd (to_after b w kb (cc) (λ z. n (e ∙ z)))
         ]
         | inr q ↦ elim (cases_eq b y) [
-          | inl w ↦ absurd (to_after a q ka (e ∙ ap lk' w ∙ s.at_y) n)
+          | inl w ↦ absurd (to_after a q ka (cc) n)
           | inr w ↦ elim (cases_eq a p) [
-            | inl u ↦ u ∙ sym (to_y b kb (sym e ∙ ap lk' u ∙ s.at_p))
+            | inl u ↦ cc (to_y b kb (sym e ∙ ap lk' u ∙ s.at_p))
             | inr u ↦ elim (cases_eq b p) [
-              | inl t ↦ to_y a ka (e ∙ ap lk' t ∙ s.at_p) ∙ sym t
+              | inl t ↦ to_y a ka (cc) ∙ sym t
               | inr t ↦
                   let ka' = changed_elsewhere stage y a 0 q in
                   let kb' = changed_elsewhere stage y b 0 w in
                   let va = s.rest a u q in
                   let vb = s.rest b t w in
-                  o.single a b (omega arith) (omega arith) (sym va ∙ e ∙ vb) (λ z. n (va ∙ z))
+                  o.single a b (omega arith) (omega arith) (cc) (λ z. n (cc))
             ]
           ]
         ]
@@ -245,13 +245,13 @@ module _ {lk lk' stage rank : ℕ → ℕ} (o : Ordered lk stage rank) (p y : �
 module _ {lk lk' stage rank : ℕ → ℕ} (o : Ordered lk stage rank) (p : ℕ) (s : Skipped lk lk' p) (kp : stage p ≡ 0) (ne : lk p ≢ 0) where
   pub skip_back : {z u : ℕ} → Ahead lk' z u → Ahead lk z u
   skip_back {z} {u} (next n e) = elim (cases_eq u p) [
-    | inl q ↦ more_at ne (ap lk q) (next_at (λ w. n (e ∙ w)) (sym s.at_p ∙ ap lk' (sym q) ∙ e))
-    | inr q ↦ next_at (λ w. n (e ∙ w)) (sym (s.rest u q) ∙ e)
+    | inl q ↦ more_at ne (ap lk q) (next_at (λ w. n (e ∙ w)) (cc))
+    | inr q ↦ next_at (λ w. n (e ∙ w)) (cc (s.rest u q))
   ]
   skip_back {z} {u} (more n a) =
       let b = skip_back a in
       elim (cases_eq u p) [
-        | inl q ↦ more_at ne (ap lk q) (more_at n (sym s.at_p ∙ ap lk' (sym q)) b)
+        | inl q ↦ more_at ne (ap lk q) (more_at n (cc) b)
         | inr q ↦ more_at n (sym (s.rest u q)) b
       ]
 
@@ -259,10 +259,10 @@ module _ {lk lk' stage rank : ℕ → ℕ} (o : Ordered lk stage rank) (p : ℕ)
   skip_fwd_both {z} {u} nz (next n e) =
       let z_ne : z ≢ 0 = λ w. n (e ∙ w) in (
         elim (cases_eq u p) [
-          | inl q ↦ absurd (nz (sym e ∙ ap lk q))
+          | inl q ↦ absurd (nz (cc))
           | inr q ↦ next_at z_ne (s.rest u q ∙ e)
         ],
-        (λ q. next_at z_ne (s.at_p ∙ ap lk (sym q) ∙ e)),
+        (λ q. next_at z_ne (cc)),
       )
   skip_fwd_both {z} {u} nz (more n a) =
       let b = skip_fwd_both nz a in (
@@ -270,7 +270,7 @@ module _ {lk lk' stage rank : ℕ → ℕ} (o : Ordered lk stage rank) (p : ℕ)
           | inl q ↦ ahead_from (sym q) (b.1 (ap lk q))
           | inr q ↦ more_at n (s.rest u q) b.0
         ],
-        (λ q. more_at n (s.at_p ∙ ap lk (sym q)) b.0),
+        (λ q. more_at n (cc) b.0),
       )
 
   pub skip_fwd : {z u : ℕ} → z ≢ lk p → Ahead lk z u → Ahead lk' z u
@@ -297,7 +297,7 @@ module _ {lk lk' stage rank : ℕ → ℕ} (o : Ordered lk stage rank) (p : ℕ)
 
   -- the stages with the skipped node due
   pub skip_ordered : Ordered lk' (changed stage (lk p) 1) rank
-  skip_ordered = record { head = changed_elsewhere stage x 0 1 (λ e. ne (sym e)) ∙ o.head; falls = falls'; down = down'; single = single' }
+  skip_ordered = record { head = cc (changed_elsewhere stage x 0 1 (λ e. ne (sym e))); falls = falls'; down = down'; single = single' }
     where
       x : ℕ
       x = lk p
@@ -318,12 +318,12 @@ module _ {lk lk' stage rank : ℕ → ℕ} (o : Ordered lk stage rank) (p : ℕ)
       p_ne e = let f = o.falls p (omega arith) ne in let g = ap rank e in omega arith
 
       after_ne : lk x ≢ x
-      after_ne e = let f = o.falls x (omega arith) (λ w. ne (sym e ∙ w)) in let g = ap rank e in omega arith
+      after_ne e = let f = o.falls x (omega arith) (λ w. ne (cc)) in let g = ap rank e in omega arith
 
       falls' : (u : ℕ) → stage' u < 3 → lk' u ≢ 0 → rank (lk' u) < rank u
       falls' u l n = elim (cases_eq u p) [
         | inl q ↦
-            let v : lk' u ≡ lk x = ap lk' q ∙ s.at_p in
+            let v : lk' u ≡ lk x = cc in
             let f = o.falls p (omega arith) ne in
             let g = o.falls x (omega arith) (λ w. n (v ∙ w)) in
             let r = ap rank q in
@@ -339,7 +339,7 @@ module _ {lk lk' stage rank : ℕ → ℕ} (o : Ordered lk stage rank) (p : ℕ)
       down' : (u : ℕ) → stage' u < 3 → stage' (lk' u) ≤ stage' u
       down' u l = elim (cases_eq u p) [
         | inl q ↦
-            let v : lk' u ≡ lk x = ap lk' q ∙ s.at_p in
+            let v : lk' u ≡ lk x = cc in
             let d = o.down x (omega arith) in
             let b = changed_elsewhere stage x (lk x) 1 after_ne in
             subst (λ (w : ℕ). stage' w ≤ stage' u) (sym v) (omega arith)
@@ -358,7 +358,7 @@ module _ {lk lk' stage rank : ℕ → ℕ} (o : Ordered lk stage rank) (p : ℕ)
                   elim (cases_eq (lk u) x) [
                     | inl t ↦
                         let b = changed_at stage x (lk u) 1 t in
-                        let z : stage u ≢ 0 = λ w. q (o.single u p w kp t (λ y. ne (sym t ∙ y))) in
+                        let z : stage u ≢ 0 = λ w. q (o.single u p w kp t (λ y. ne (cc))) in
                         omega arith
                     | inr t ↦
                         let b = changed_elsewhere stage x (lk u) 1 t in
@@ -378,20 +378,20 @@ module _ {lk lk' stage rank : ℕ → ℕ} (o : Ordered lk stage rank) (p : ℕ)
           let kb' = changed_elsewhere stage x b 1 b_ne in
           elim (cases_eq a p) [
             | inl q ↦ elim (cases_eq b p) [
-              | inl w ↦ q ∙ sym w
+              | inl w ↦ cc
               | inr w ↦
-                  let v : lk' a ≡ lk x = ap lk' q ∙ s.at_p in
-                  let u : lk b ≡ lk x = sym (s.rest b w) ∙ sym e ∙ v in
-                  absurd (b_ne (o.single b x (omega arith) kx u (λ z. n (v ∙ sym u ∙ z))))
+                  let v : lk' a ≡ lk x = cc in
+                  let u : lk b ≡ lk x = cc (s.rest b w) in
+                  absurd (b_ne (o.single b x (omega arith) kx u (λ z. n (cc))))
             ]
             | inr q ↦ elim (cases_eq b p) [
               | inl w ↦
-                  let v : lk a ≡ lk x = sym (s.rest a q) ∙ e ∙ ap lk' w ∙ s.at_p in
+                  let v : lk a ≡ lk x = cc (s.rest a q) in
                   absurd (a_ne (o.single a x (omega arith) kx v (λ z. n (s.rest a q ∙ z))))
               | inr w ↦
                   let va = s.rest a q in
                   let vb = s.rest b w in
-                  o.single a b (omega arith) (omega arith) (sym va ∙ e ∙ vb) (λ z. n (va ∙ z))
+                  o.single a b (omega arith) (omega arith) (cc) (λ z. n (cc))
             ]
           ]
 

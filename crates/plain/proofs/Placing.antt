@@ -31,7 +31,7 @@ module _ {size : ℕ} {q : Pool} {stage rank : ℕ → ℕ} (s : Shaped size q s
   fresh = s.books.in_free y (subst (In y) (sym free) (In.first refl))
 
   kp : stage p ≡ 0
-  kp = elim pa [ inl e ↦ ap stage e ∙ s.ordered.head | inr a ↦ listed_stage s a ]
+  kp = elim pa [ inl e ↦ cc | inr a ↦ listed_stage s a ]
 
   pub y_ne : y ≢ 0
   y_ne e = let h = s.ordered.head in let w = ap stage e in let f = fresh.0 in omega arith
@@ -57,7 +57,7 @@ module _ {size : ℕ} {q : Pool} {stage rank : ℕ → ℕ} (s : Shaped size q s
 
   fills : Fills q q₁ y
   fills = record {
-    free = free ∙ ap {B = List ℕ} (λ l. y ∷ l) (sym (ap tail free));
+    free = cc;
     due = refl;
     covered = refl;
     next_stamp = refl;
@@ -101,12 +101,12 @@ module _ {size : ℕ} {q : Pool} {stage rank : ℕ → ℕ} (s : Shaped size q s
   unfolding KeysApart
   keys_apart₁ o new x z ax az nx nz e = elim (listed_before ax) [
     | inl ex ↦ elim (listed_before az) [
-      | inl ez ↦ ex ∙ sym ez
-      | inr bz ↦ absurd (new z bz nz (sym (key_old z (old_ne bz)) ∙ sym e ∙ ap (λ (v : ℕ). q₁.key v) ex ∙ key_new))
+      | inl ez ↦ cc
+      | inr bz ↦ absurd (new z bz nz (cc (key_old z (old_ne bz), key_new)))
     ]
     | inr bx ↦ elim (listed_before az) [
-      | inl ez ↦ absurd (new x bx nx (sym (key_old x (old_ne bx)) ∙ e ∙ ap (λ (v : ℕ). q₁.key v) ez ∙ key_new))
-      | inr bz ↦ s.keys_apart x z bx bz (λ w. ahead_ne bx (w ∙ o)) (λ w. ahead_ne bz (w ∙ o)) (sym (key_old x (old_ne bx)) ∙ e ∙ key_old z (old_ne bz))
+      | inl ez ↦ absurd (new x bx nx (cc (key_old x (old_ne bx), key_new)))
+      | inr bz ↦ s.keys_apart x z bx bz (λ w. ahead_ne bx (w ∙ o)) (λ w. ahead_ne bz (w ∙ o)) (cc (key_old x (old_ne bx), key_old z (old_ne bz)))
     ]
   ]
 
@@ -137,9 +137,9 @@ module _ {size : ℕ} {q : Pool} {stage rank : ℕ → ℕ} (s : Shaped size q s
       guards = λ x g.
           let e = changed_elsewhere stage y x 0 (live_ne x g.live) in
           let l = g.live in
-          record { live = omega arith; waits = λ w. g.waits (sym e ∙ w) };
+          record { live = omega arith; waits = λ w. g.waits (cc) };
       back = λ x z l b. elim (splice_back s.ordered p y spliced kp fresh.0 l b) [
-        | inl e ↦ inr (ap stage e ∙ fresh.0, ahead_to (sym e) new_listed)
+        | inl e ↦ inr (cc (fresh.0), ahead_to (sym e) new_listed)
         | inr c ↦ inl c
       ];
       fwd = λ x z l b. Carried.stays (still_ahead l b);

@@ -14,14 +14,14 @@ pub data Chain (lk : ℕ → ℕ) : ℕ → List ℕ → Type 0 where
 pub chain_ahead : {lk : ℕ → ℕ} {p x : ℕ} {l : List ℕ} → Chain lk p l → In x l → Ahead lk x p
 chain_ahead (stop e) m = elim m [ ]
 chain_ahead (link e n c) m = elim (in_cases m) [
-  | inl q ↦ next_at (λ w. n (sym q ∙ w)) (e ∙ sym q)
+  | inl q ↦ next_at (λ w. n (cc)) (cc)
   | inr i ↦ more_at n e (chain_ahead c i)
 ]
 
 pub ahead_chain : {lk : ℕ → ℕ} {p x : ℕ} {l : List ℕ} → Chain lk p l → Ahead lk x p → In x l
 ahead_chain (stop e) (Ahead.next n q) = absurd (n e)
 ahead_chain (stop e) (Ahead.more n a) = absurd (n e)
-ahead_chain (link e n c) (Ahead.next m q) = In.first (sym q ∙ e)
+ahead_chain (link e n c) (Ahead.next m q) = In.first (cc)
 ahead_chain (link e n c) (Ahead.more m a) = In.later (ahead_chain c (ahead_from e a))
 
 -- the node before x has x behind it
@@ -69,7 +69,7 @@ holder_there keys k [] x h m e = elim m [ ]
 holder_there keys k (y ∷ ys) x h m e = cond_both (eqb (keys y) k) y (holder keys k ys) (λ v. v ≢ 0)
     (λ q. h y (In.first refl))
     (λ q. elim (in_cases m) [
-      | inl w ↦ absurd (eqb-false (keys y) k q (ap keys (sym w) ∙ e))
+      | inl w ↦ absurd (eqb-false (keys y) k q (cc))
       | inr i ↦ holder_there keys k ys x (λ z j. h z (In.later j)) i e
     ])
 
@@ -83,7 +83,7 @@ module _ (lk : ℕ → ℕ) where
       (λ q j.
       let n = eqb-false (lk p) 0 q in
       elim (in_cases j) [
-        | inl w ↦ next_at (λ v. n (sym w ∙ v)) (sym w)
+        | inl w ↦ next_at (λ v. n (cc)) (sym w)
         | inr k ↦ more_at n refl (in_reached f (lk p) k)
       ])
       m
@@ -100,9 +100,7 @@ module _ (lk : ℕ → ℕ) where
   reached_again (suc f) {p} (stop q) h = cond-true (eqb (lk p) 0) [] (lk p ∷ reached f lk (lk p)) (eq-eqb (lk p) 0 q)
   reached_again (suc f) {p} (link {y = y} {ys = ys} q n c) h =
       let r = reached_again f c (omega arith) in
-      cond-false (eqb (lk p) 0) [] (lk p ∷ reached f lk (lk p)) (ne_eqb (lk p) 0 (λ v. n (sym q ∙ v)))
-      ∙ ap {B = List ℕ} (λ z. z ∷ reached f lk z) q
-      ∙ ap {B = List ℕ} (λ z. y ∷ z) r
+      cc (cond-false (eqb (lk p) 0) [] (lk p ∷ reached f lk (lk p)) (ne_eqb (lk p) 0 (λ v. n (sym q ∙ v))))
 
   module _ {stage rank : ℕ → ℕ} (o : Ordered lk stage rank) where
     pub reached_apart : (f p : ℕ) → stage p < 3 → Apart (reached f lk p)

@@ -29,7 +29,7 @@ module _ {size : ℕ} {q : Pool} {stage rank : ℕ → ℕ} (s : Shaped size q s
   pa = elim found.1 [ inl e ↦ inl e | inr i ↦ inr (chain_ahead (listed_chain s) i) ]
 
   kp : stage p ≡ 0
-  kp = elim pa [ inl e ↦ ap stage e ∙ s.ordered.head | inr a ↦ listed_stage s a ]
+  kp = elim pa [ inl e ↦ cc | inr a ↦ listed_stage s a ]
 
   kx : stage x ≡ 0
   kx = listed_stage s xa
@@ -43,7 +43,7 @@ module _ {size : ℕ} {q : Pool} {stage rank : ℕ → ℕ} (s : Shaped size q s
   due_kept : (aw : Bool) (z : ℕ) → Guarded stage aw z → Guarded (changed stage x 1) aw z
   due_kept aw z g = elim (cases_eq z x) [
     | inl e ↦ let w = changed_at stage x z 1 e in record { live = omega arith; waits = λ v. absurd (let v' = v in omega arith) }
-    | inr n ↦ let w = changed_elsewhere stage x z 1 n in let l = g.live in record { live = omega arith; waits = λ v. g.waits (sym w ∙ v) }
+    | inr n ↦ let w = changed_elsewhere stage x z 1 n in let l = g.live in record { live = omega arith; waits = λ v. g.waits (cc) }
   ]
 
   -- ---- x alone goes
@@ -54,7 +54,7 @@ module _ {size : ℕ} {q : Pool} {stage rank : ℕ → ℕ} (s : Shaped size q s
 
     skipped : Skipped (link_of q) (link_of q₁) p
     skipped = record {
-      at_p = linked_there p (link_of q x) q ∙ ap (link_of q) (sym p_links);
+      at_p = cc (linked_there p (link_of q x) q, p_links);
       rest = λ z n. linked_elsewhere p (link_of q x) q z n;
     }
 
@@ -176,12 +176,10 @@ module _ {size : ℕ} {q : Pool} {stage rank : ℕ → ℕ} (s : Shaped size q s
     then_out : Skipped lk (link_of q₂) y
     then_out = record {
       at_p =
-          linked_elsewhere p (head_or_0 q.free) (filled k (link_of q x) q) y (λ e. p_ne (sym e))
-          ∙ filled_there k (link_of q x) q y head y_ne
-          ∙ sym (ap lk lk_y ∙ lk_rest x x_ne_p x_ne);
+          cc (linked_elsewhere p (head_or_0 q.free) (filled k (link_of q x) q) y (λ e. p_ne (sym e)), filled_there k (link_of q x) q y head y_ne, lk_y, lk_rest x x_ne_p x_ne);
       rest = λ z n. elim (cases_eq z p) [
         | inl e ↦
-            ap (link_of q₂) e ∙ linked_there p (head_or_0 q.free) (filled k (link_of q x) q) ∙ head ∙ sym (lk_p z e)
+            cc (linked_there p (head_or_0 q.free) (filled k (link_of q x) q), head, lk_p z e)
         | inr d ↦
             linked_elsewhere p (head_or_0 q.free) (filled k (link_of q x) q) z d
             ∙ filled_elsewhere k (link_of q x) q y head z n
@@ -239,7 +237,7 @@ module _ {size : ℕ} {q : Pool} {stage rank : ℕ → ℕ} (s : Shaped size q s
 
     fills : Fills q mid y
     fills = record {
-      free = free ∙ ap {B = List ℕ} (λ l. y ∷ l) (sym (ap tail free));
+      free = cc;
       due = refl;
       covered = refl;
       next_stamp = refl;
@@ -266,7 +264,7 @@ module _ {size : ℕ} {q : Pool} {stage rank : ℕ → ℕ} (s : Shaped size q s
         let l = g.live in
         elim (cases_eq z x) [
           | inl i ↦ let w = changed_at stage₁ x z 1 i in record { live = omega arith; waits = λ v. absurd (let v' = v in omega arith) }
-          | inr n ↦ let w = changed_elsewhere stage₁ x z 1 n in record { live = omega arith; waits = λ v. g.waits (sym e ∙ sym w ∙ v) }
+          | inr n ↦ let w = changed_elsewhere stage₁ x z 1 n in record { live = omega arith; waits = λ v. g.waits (cc) }
         ]
 
     lost : (u : ℕ) → stage u < 3 → q.key x ≡ k → Ahead (link_of q) x u → Carried q q₂ u x
@@ -281,23 +279,23 @@ module _ {size : ℕ} {q : Pool} {stage rank : ℕ → ℕ} (s : Shaped size q s
     keys₂ : q.move ≡ Move.none → q.key x ≡ k → (a b : ℕ) → Ahead (link_of q₂) a 0 → Ahead (link_of q₂) b 0 → q₂.key a ≡ q₂.key b → a ≡ b
     keys₂ still ex a b aa ab e = elim (back head_live aa) [
       | inl ea ↦ elim (back head_live ab) [
-        | inl eb ↦ ea ∙ sym eb
-        | inr cb ↦ absurd (alone b ab cb (sym e ∙ ap (λ (v : ℕ). q₂.key v) ea ∙ key_new))
+        | inl eb ↦ cc
+        | inr cb ↦ absurd (alone b ab cb (cc (key_new)))
       ]
       | inr ca ↦ elim (back head_live ab) [
-        | inl eb ↦ absurd (alone a aa ca (e ∙ ap (λ (v : ℕ). q₂.key v) eb ∙ key_new))
-        | inr cb ↦ s.keys_apart a b ca cb (no_old ca) (no_old cb) (sym (key_old a (old_ne ca)) ∙ e ∙ key_old b (old_ne cb))
+        | inl eb ↦ absurd (alone a aa ca (cc (key_new)))
+        | inr cb ↦ s.keys_apart a b ca cb (no_old ca) (no_old cb) (cc (key_old a (old_ne ca), key_old b (old_ne cb)))
       ]
     ]
       where
         no_old : {z : ℕ} → Ahead (link_of q) z 0 → z ≢ old_of q.move
-        no_old c i = ahead_ne c (i ∙ ap old_of still)
+        no_old c i = ahead_ne c (cc)
 
         old_ne : {z : ℕ} → Ahead (link_of q) z 0 → z ≢ y
         old_ne c = live_ne _ (let w = listed_stage s c in omega arith)
 
         alone : (z : ℕ) → Ahead (link_of q₂) z 0 → Ahead (link_of q) z 0 → q₂.key z ≢ k
-        alone z az cz i = not_x az (s.keys_apart z x cz xa (no_old cz) (no_old xa) (sym (key_old z (old_ne cz)) ∙ i ∙ sym ex))
+        alone z az cz i = not_x az (s.keys_apart z x cz xa (no_old cz) (no_old xa) (cc (key_old z (old_ne cz))))
 
     still_somewhere₂ : (z : ℕ) → Somewhere q z → Somewhere q₂ z
     still_somewhere₂ z (Somewhere.on_list c) = elim (cases_eq z x) [
@@ -327,7 +325,7 @@ module _ {size : ℕ} {q : Pool} {stage rank : ℕ → ℕ} (s : Shaped size q s
         kept = λ z n l. record { key = key_old z (live_ne z l); stamp = stamp_old z (live_ne z l); fields = record_stays a y z v y_ne n (live_ne z l) };
         guards = guards₂ aw;
         back = λ u z l b. elim (back l b) [
-          | inl e ↦ inr (ap stage e ∙ fresh.0, ahead_to (sym e) new_listed)
+          | inl e ↦ inr (cc (fresh.0), ahead_to (sym e) new_listed)
           | inr c ↦ inl c
         ];
         fwd = λ u z l b. elim (cases_eq z x) [

@@ -39,7 +39,7 @@ not_at_all x (y ∷ ys) n = cond-false (eqb x y) (suc (times x ys)) (times x ys)
 once : (x : ℕ) {xs : List ℕ} → Apart xs → In x xs → times x xs ≡ 1
 once x Apart.nothing i = elim i [ ]
 once x (Apart.one_more {x = y} {xs = ys} d a) i = elim (cases_eq x y) [
-  | inl e ↦ cond-true (eqb x y) (suc (times x ys)) (times x ys) (eq-eqb x y e) ∙ ap suc (ap (λ (z : ℕ). times z ys) e ∙ not_at_all y ys d)
+  | inl e ↦ cc (cond-true (eqb x y) (suc (times x ys)) (times x ys) (eq-eqb x y e), not_at_all y ys d)
   | inr n ↦ cond-false (eqb x y) (suc (times x ys)) (times x ys) (ne_eqb x y n) ∙ once x a (elim (in_cases i) [ inl e ↦ absurd (n e) | inr j ↦ j ])
 ]
 

@@ -35,9 +35,9 @@ module _ {b : Board} {a : Area} {stage rank : ℕ → ℕ} {m : Moment} (f : Fin
         inside = n.stays r s.inside nl;
         ne = s.ne;
         guarded = u.guards x.node s.guarded;
-        stamp = k.stamp ∙ s.stamp;
-        key = k.key ∙ s.key;
-        fields = k.fields ∙ s.fields;
+        stamp = cc;
+        key = cc;
+        fields = cc;
       }
 
   stands_newly : (r : ℕ) (x : Sighting) → Beholds b a r x → Stands b a stage r x
@@ -68,9 +68,9 @@ agree {b} {a} f g r x y sx sy =
     let q = g r y sy in
     record {
       same_node = (
-        (λ e. sym p.stamp ∙ ap b.pool.stamp e ∙ q.stamp),
-        (λ e. f.shaped.books.stamps_apart x.node y.node p.ne q.ne p.guarded.live q.guarded.live (p.stamp ∙ e ∙ sym q.stamp)),
+        (λ e. cc),
+        (λ e. f.shaped.books.stamps_apart x.node y.node p.ne q.ne p.guarded.live q.guarded.live (cc)),
       );
-      same_key = λ e. sym p.key ∙ ap b.pool.key e ∙ q.key;
-      same_record = λ e. sym p.fields ∙ ap (record_at a) e ∙ q.fields;
+      same_key = λ e. cc;
+      same_record = λ e. cc;
     }

@@ -27,7 +27,7 @@ stop making [] sooner {h} {b} {a} run e = record { board = b; area = a; run = su
 stop making (x ∷ later) sooner (Run.made m n s area made) e = absurd (no_moment e)
 stop making (x ∷ later) sooner (Run.called {b = b} {area = a} run c) e =
     let s = stop making later sooner run (same_older e) in
-    record { board = s.board; area = s.area; run = s.run; sized = s.sized ∙ sym (follows (state making run).fine a making c).sized }
+    record { board = s.board; area = s.area; run = s.run; sized = cc ((follows (state making run).fine a making c).sized) }
 
 -- what holds at the end of every run holds at every stop of one
 always : (Law : History → Type 0) (making : Making) {h : History} {b : Board} {a : Area} → ((g : History) (d : Board) (z : Area) → d.size ≡ b.size → Run (result making) g d z → Law g) → Run (result making) h b a → Always Law h

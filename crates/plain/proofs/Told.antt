@@ -79,7 +79,7 @@ told_silent b a m silent same = record {
 }
   where
     not_by : (c : Call) → m.call ≡ c → walks c ≡ true → ⊥
-    not_by c e t = both_ways (walks c) (ap walks (sym e) ∙ silent) t
+    not_by c e t = both_ways (walks c) (cc) t
 
 -- ---- refused calls
 
@@ -175,7 +175,7 @@ module _ {b : Board} {stage rank : ℕ → ℕ} (f : Fine b stage rank) (a : Are
             let o = only u x t in
             let node : z ≡ x.node = ap (λ (y : Sighting). y.node) o.1 in
             subst (λ (v : ℕ). (link_of b.pool (b.slots v).place ≡ x.node) × (((with_slot r s b).slots v).place ≡ x.node)) o.0
-            (node, slot_there r s ∙ there ∙ node);
+            (node, cc (slot_there r s));
         ends = λ u t. absurd (not_end t.1);
         begins = λ u t. cc;
         keeps = λ u iu ns nl ne' no_step. slot_else r u s (λ e. no_step x₀ (subst (λ (v : ℕ). StepsOn v m x₀) (sym e) on));
@@ -252,7 +252,7 @@ module _ {b : Board} {stage rank : ℕ → ℕ} (f : Fine b stage rank) (a : Are
 
   told_accepted : (making : Making) (c : Call) → Passed (checks making b a c) → Told b a (moment c (accepted making b a c))
   told_accepted making (Call.enter u) passed = told_silent b a (moment (Call.enter u) (accepted making b a (Call.enter u))) refl
-      (λ r i n. slot_else u r at_rest (λ e. both_ways (b.who.inside u) passed.1.0 (ap b.who.inside (sym e) ∙ i)))
+      (λ r i n. slot_else u r at_rest (λ e. both_ways (b.who.inside u) passed.1.0 (cc)))
   told_accepted making (Call.leave u) passed = told_silent b a (moment (Call.leave u) (accepted making b a (Call.leave u))) refl
       (λ r i n. slot_else u r at_rest (λ e. n (ap Call.leave (sym e), refl)))
   told_accepted making (Call.step u) passed = told_step making u passed

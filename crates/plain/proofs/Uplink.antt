@@ -38,7 +38,7 @@ module _ {b : Board} {stage rank : ℕ → ℕ} (f : Fine b stage rank) (a : Are
   ]
 
   no_old : q.move ≡ Move.none → {x : ℕ} → Ahead lk x 0 → x ≢ old_of q.move
-  no_old still c i = ahead_ne c (i ∙ ap old_of still)
+  no_old still c i = ahead_ne c (cc)
 
   not_owed : q.move ≡ Move.none → (aw : Bool) (c : ℕ) → Owed q.move aw c → ⊥
   not_owed still aw c w = subst (λ (m : Move). Owed m aw c) still w
@@ -99,7 +99,7 @@ module _ {b : Board} {stage rank : ℕ → ℕ} (f : Fine b stage rank) (a : Are
         old = still_ahead s k (after b h) new (tail q.free) free there the_move (let w = s.ordered.head in omega arith) listed_old;
         copy = new_listed s k (after b h) new (tail q.free) free there the_move;
         differ = old_ne s k (after b h) new (tail q.free) free there the_move listed_old;
-        alike = key_new s k (after b h) new (tail q.free) free there the_move ∙ sym (key_old s k (after b h) new (tail q.free) free there the_move old (old_ne s k (after b h) new (tail q.free) free there the_move listed_old) ∙ key);
+        alike = cc (key_new s k (after b h) new (tail q.free) free there the_move, key_old s k (after b h) new (tail q.free) free there the_move old (old_ne s k (after b h) new (tail q.free) free there the_move listed_old));
       }
 
       -- a move that is not earlier puts the copy behind the old node
@@ -112,7 +112,7 @@ module _ {b : Board} {stage rank : ℕ → ℕ} (f : Fine b stage rank) (a : Are
             | inr z ↦ not-false (is_listed b h) z
           ] in
           let n = node_there s h l in
-          let apart : node_of b h ≢ old = λ w. eqb-false h k other (sym n.1 ∙ ap q.key w ∙ key) in
+          let apart : node_of b h ≢ old = λ w. eqb-false h k other (cc) in
           let c = precedes_ahead (node_of b h) old (listed_chain s) (ahead_chain (listed_chain s) n.0) (ahead_chain (listed_chain s) listed_old) apart p.1 in
           let live = listed_stage s listed_old in
           ahead_trans (still_ahead s k (after b h) new (tail q.free) free there the_move (omega arith) (ahead_to (sym at_h) c)) (behind_p s k (after b h) new (tail q.free) free there the_move)
@@ -132,7 +132,7 @@ module _ {b : Board} {stage rank : ℕ → ℕ} (f : Fine b stage rank) (a : Are
         follows_pool f a (Call.move k h) _ _ _
         (placing s k (after b h) new (tail q.free) free there the_move a (record_at a old)
         (ap old_of still)
-        (λ z az d i. d (s.keys_apart z old az n.0 (no_old still az) (no_old still n.0) (i ∙ sym n.1) ∙ sym (old_is (is_earlier b k h))))
+        (λ z az d i. d (s.keys_apart z old az n.0 (no_old still az) (no_old still n.0) (cc) ∙ sym (old_is (is_earlier b k h))))
         (cond_both (is_earlier b k h) (Move.earlier old new Need.lacking) (Move.later old new) (Moved q₁)
         (λ t. two free there n.0 n.1)
         (λ t. (two free there n.0 n.1, behind free there n.0 n.1 after_listed other t)))
@@ -170,8 +170,8 @@ module _ {b : Board} {stage rank : ℕ → ℕ} (f : Fine b stage rank) (a : Are
       lost p xa u l ax =
           let x = old_of q.move in
           let c = p.copy in
-          let apart : c ≢ x = λ w. p.both.differ (sym p.is_old ∙ sym w) in
-          let alike : q.key c ≡ q.key x = p.both.alike ∙ ap q.key (sym p.is_old) in
+          let apart : c ≢ x = λ w. p.both.differ (cc) in
+          let alike : q.key c ≡ q.key x = cc in
           elim p.way [
             | inl w ↦ Carried.replaced c (Removing.still_ahead s x xa Move.none apart (ahead_trans ax (ahead_from (sym p.is_old) w))) alike
             | inr w ↦ Carried.copied c w alike (λ ac. Removing.still_ahead s x xa Move.none apart ac)

@@ -76,8 +76,8 @@ module _ {b : Board} {a : Area} {stage rank : ℕ → ℕ} {m : Moment} (f : Fin
       trod x on =
           let o = t.beholds r x (Sights.by_step on) in
           let d = t.treads r x on in
-          let e : link_of m.board.pool (b.slots r).place ≡ x.node = ap (λ (q : Pool). link_of q (b.slots r).place) o.1 ∙ d.0 in
-          let k : x.key ≡ key_of m.board x.node = sym o.0.key ∙ ap (λ (q : Pool). q.key x.node) (sym o.1) in
+          let e : link_of m.board.pool (b.slots r).place ≡ x.node = cc in
+          let k : x.key ≡ key_of m.board x.node = cc in
           record {
             inside = n.stays r u.inside nl;
             trodden = x.node ∷ u.trodden;
@@ -102,7 +102,7 @@ module _ {b : Board} {a : Area} {stage rank : ℕ → ℕ} {m : Moment} (f : Fin
   honest_at k {w} u s =
       let o = (t.beholds r s.sighting (Sights.by_step s.on)).0 in
       let d = t.treads r s.sighting s.on in
-      Any.there (subst (λ (j : ℕ). Any (Listed j) w) (o.key ∙ s.key) (u.way.honest s.sighting.node (next_at o.ne d.0)))
+      Any.there (subst (λ (j : ℕ). Any (Listed j) w) (cc) (u.way.honest s.sighting.node (next_at o.ne d.0)))
 
   pub short_at : (j : ℕ) {w : History} → UnderWay b stage r w → Count (Steps r) (m ∷ w) j → j ≤ b.size + 1
   short_at j u c =

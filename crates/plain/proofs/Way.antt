@@ -52,7 +52,7 @@ module _ {b : Board} {stage rank : ℕ → ℕ} (f : Fine b stage rank) where
   way_goes r m w p z v e n g on y = record {
     apart = Apart.one_more (λ i. y.clear z i (next_at n e)) y.apart;
     live = λ x i. elim (in_cases i) [
-      | inl q ↦ ((λ o. n (sym q ∙ o)), subst (Guarded stage (b.who.awaited r)) (sym q) gz)
+      | inl q ↦ ((λ o. n (cc)), subst (Guarded stage (b.who.awaited r)) (sym q) gz)
       | inr j ↦ y.live x j
     ];
     clear = λ x i a. elim (in_cases i) [
@@ -63,7 +63,7 @@ module _ {b : Board} {stage rank : ℕ → ℕ} (f : Fine b stage rank) where
     complete = λ k ev. elim (y.complete k ev) [
       | inl s ↦ inl s
       | inr c ↦ elim (split c.0 c.1) [
-        | inl q ↦ inl (Any.here (subst (λ (l : ℕ). StepsOnKey r l m) (ap (key_of b) q ∙ c.2) on))
+        | inl q ↦ inl (Any.here (subst (λ (l : ℕ). StepsOnKey r l m) (cc) on))
         | inr a ↦ inr (c.0, a, c.2)
       ]
     ];
@@ -81,7 +81,7 @@ module _ {b : Board} {stage rank : ℕ → ℕ} (f : Fine b stage rank) where
 
       -- what is ahead of p is z, or ahead of z
       split : (x : ℕ) → Ahead (link_of b.pool) x p → (z ≡ x) ⊎ Ahead (link_of b.pool) x z
-      split x (Ahead.next d q) = inl (sym e ∙ q)
+      split x (Ahead.next d q) = inl (cc)
       split x (Ahead.more d a) = inr (ahead_from e a)
 
 module _ {b : Board} {a : Area} {stage rank : ℕ → ℕ} {m : Moment} (f : Fine b stage rank) (n : Follows b a stage m) (r : ℕ) (i : b.who.inside r ≡ true) (nl : ¬ (Leaves r m)) where
@@ -133,7 +133,7 @@ module _ {b : Board} {a : Area} {stage rank : ℕ → ℕ} {m : Moment} (f : Fin
           Any (StepsOnKey r k) (m ∷ w) ⊎ ((x : ℕ) × Ahead (link_of m.board.pool) x p × (key_of m.board x ≡ k))
       carry k z d e l (Carried.stays c) = inr (z, c, ahead_key z d ∙ e)
       carry k z d e l (Carried.replaced x c q) = inr (x, c, q ∙ e)
-      carry k z d e l (Carried.gone lost) = let h = listed_at n.fine k l in absurd (lost h.0 h.1 (h.2 ∙ sym e))
+      carry k z d e l (Carried.gone lost) = let h = listed_at n.fine k l in absurd (lost h.0 h.1 (cc))
       carry k z d e l (Carried.copied c o q fw) = elim (y.copies c (o (b.who.awaited r))) [
         | inl s ↦ inl (Any.there (subst (λ (x : ℕ). Any (StepsOnKey r x) w) (q ∙ e) s))
         | inr h ↦ inr (c, fw h, owed_key (b.who.awaited r) c (o (b.who.awaited r)) ∙ q ∙ e)
