@@ -21,26 +21,26 @@ pub record Fills (q q' : Pool) (y : ℕ) : Type 0 where
 
 module _ {size : ℕ} {q q' : Pool} {stage : ℕ → ℕ} {y : ℕ} (k : Books size q stage) (f : Fills q q' y) where
   fresh : (stage y ≡ 3) × (y ≤ size)
-  fresh = k.in_free y (subst (In y) (sym f.free) (In.first refl))
+  fresh = k.in_free y (rw f.free (In.first refl))
 
   free_apart : Apart (y ∷ q'.free)
-  free_apart = subst Apart f.free k.apart_free
+  free_apart = rw f.free at k.apart_free
 
   pub books_fill : Books size q' (changed stage y 0)
   books_fill = record {
     bounded = λ x l. elim (cases_eq x y) [
-      | inl e ↦ subst (λ (z : ℕ). z ≤ size) (sym e) fresh.1
+      | inl e ↦ rw e fresh.1
       | inr n ↦ k.bounded x (let e = changed_elsewhere stage y x 0 n in omega arith)
     ];
     in_free = λ x i.
-        let n : x ≢ y = λ e. apart_head free_apart (subst (λ (z : ℕ). In z q'.free) e i) in
-        let r = k.in_free x (subst (In x) (sym f.free) (In.later i)) in
+        let n : x ≢ y = λ e. apart_head free_apart (rw e at i) in
+        let r = k.in_free x (rw f.free (In.later i)) in
         (changed_elsewhere stage y x 0 n ∙ r.0, r.1);
-    in_due = λ x i. let r = k.in_due x (subst (In x) f.due i) in changed_elsewhere stage y x 0 (not_fresh x (omega arith)) ∙ r;
-    in_covered = λ x i. let r = k.in_covered x (subst (In x) f.covered i) in changed_elsewhere stage y x 0 (not_fresh x (omega arith)) ∙ r;
+    in_due = λ x i. let r = k.in_due x (rw f.due at i) in changed_elsewhere stage y x 0 (not_fresh x (omega arith)) ∙ r;
+    in_covered = λ x i. let r = k.in_covered x (rw f.covered at i) in changed_elsewhere stage y x 0 (not_fresh x (omega arith)) ∙ r;
     apart_free = apart_tail free_apart;
-    apart_due = subst Apart (sym f.due) k.apart_due;
-    apart_covered = subst Apart (sym f.covered) k.apart_covered;
+    apart_due = rw f.due k.apart_due;
+    apart_covered = rw f.covered k.apart_covered;
     stamps_below = below;
     stamps_apart = apart;
   }
@@ -86,15 +86,15 @@ module _ {size : ℕ} {q q' : Pool} {stage : ℕ → ℕ} {x : ℕ} (k : Books s
   pub books_retire : Books size q' (changed stage x 1)
   books_retire = record {
     bounded = λ z l. k.bounded z (live z l);
-    in_free = λ z i. let r = k.in_free z (subst (In z) f.free i) in (other z (omega arith) ∙ r.0, r.1);
-    in_due = λ z i. elim (in_cases (subst (In z) f.due i)) [
+    in_free = λ z i. let r = k.in_free z (rw f.free at i) in (other z (omega arith) ∙ r.0, r.1);
+    in_due = λ z i. elim (in_cases (rw f.due at i)) [
       | inl e ↦ changed_at stage x z 1 e
       | inr j ↦ let r = k.in_due z j in other z (omega arith) ∙ r
     ];
-    in_covered = λ z i. let r = k.in_covered z (subst (In z) f.covered i) in other z (omega arith) ∙ r;
-    apart_free = subst Apart (sym f.free) k.apart_free;
-    apart_due = subst Apart (sym f.due) (Apart.one_more (λ i. let r = k.in_due x i in omega arith) k.apart_due);
-    apart_covered = subst Apart (sym f.covered) k.apart_covered;
+    in_covered = λ z i. let r = k.in_covered z (rw f.covered at i) in other z (omega arith) ∙ r;
+    apart_free = rw f.free k.apart_free;
+    apart_due = rw f.due (Apart.one_more (λ i. let r = k.in_due x i in omega arith) k.apart_due);
+    apart_covered = rw f.covered k.apart_covered;
     stamps_below = λ z. let e = f.stamp z in let n = f.next_stamp in let b = k.stamps_below z in omega arith;
     stamps_apart = λ u v nu nv lu lv e. k.stamps_apart u v nu nv (live u lu) (live v lv) (cc (f.stamp u, f.stamp v));
   }

@@ -99,11 +99,11 @@ record Heard (h : History) (w : Meaning) : Type 0 where
   echo : Echo h history
 
 hears : {h : History} {b : Board} {m : Moment} → Heard h b.who → Did b m → Heard (m ∷ h) m.board.who
-hears o (Did.nothing t n c) = record { history = o.history; runs = subst (Runs o.history) (sym t.who) o.runs; echo = silent t.silent o.echo }
-hears o (Did.visit c t nb no_over n ch) = record { history = _; runs = subst (Runs _) (sym t.who) (Runs.called o.runs c); echo = heard t.echoes o.echo }
-hears o (Did.removal x t r c) = record { history = o.history; runs = subst (Runs o.history) (sym t.who) o.runs; echo = silent t.silent o.echo }
-hears o (Did.wait_begins t k w c) = record { history = _; runs = subst (Runs _) (sym t.who) (Runs.called o.runs _); echo = heard t.echoes o.echo }
-hears o (Did.wait_ends t k c) = record { history = _; runs = subst (Runs _) (sym t.who) (Runs.called o.runs _); echo = heard t.echoes o.echo }
+hears o (Did.nothing t n c) = record { history = o.history; runs = rw t.who o.runs; echo = silent t.silent o.echo }
+hears o (Did.visit c t nb no_over n ch) = record { history = _; runs = rw t.who (Runs.called o.runs c); echo = heard t.echoes o.echo }
+hears o (Did.removal x t r c) = record { history = o.history; runs = rw t.who o.runs; echo = silent t.silent o.echo }
+hears o (Did.wait_begins t k w c) = record { history = _; runs = rw t.who (Runs.called o.runs _); echo = heard t.echoes o.echo }
+hears o (Did.wait_ends t k c) = record { history = _; runs = rw t.who (Runs.called o.runs _); echo = heard t.echoes o.echo }
 
 heard_by : (making : Making) {h : History} {b : Board} {a : Area} → Run (result making) h b a → Heard h b.who
 heard_by making (Run.made m n s area made) = record { history = []; runs = subst (λ (b : Board). Runs [] b.who) (made_of m n s made).0 Runs.new; echo = nothing }
@@ -134,6 +134,5 @@ waits_end_in_time making (Run.called {h = h} {b = b} {area = a} run c) m₁ star
     let here : moment c (result making b a c) ≡ m₁ = same_newest e in
     let call : c ≡ Call.tend = cc in
     let before : h ≡ newer ++ start ∷ older = same_older e in
-    subst (λ (m : Moment). FindsOver m ↔ AllGone newer older) here
-    (subst (λ (d : Call). FindsOver (moment d (result making b a d)) ↔ AllGone newer older) (sym call)
+    rw here at (subst (λ (d : Call). FindsOver (moment d (result making b a d)) ↔ AllGone newer older) (sym call)
     (tend_in_time making start newer older (subst (λ (g : History). Run (result making) g b a) before run) k not_over))

@@ -177,7 +177,7 @@ tend_silent w nb no_over = record {
 
 module _ {b : Board} {stage rank : ℕ → ℕ} (f : Fine b stage rank) (a : Area) (making : Making) where
   answered : {m : Moment} {c : ToldCall} {w : ToldAnswer} → Echoes m (below.moment c w) → answer_to c b.who ≡ w → Echoes m (below.moment c (answer_to c b.who))
-  answered {m} {c} o e = subst (λ (w : ToldAnswer). Echoes m (below.moment c w)) (sym e) o
+  answered {m} {c} o e = rw e o
 
   tend_did : (said : Poll) → (on_poll b.who).answer ≡ said → (said ≡ NoWait → b.who.waits ≡ false) → Did b (moment Call.tend (tended b a said))
   tend_did NoWait e shut = cond_both (not (is_empty b.pool.due) || needs_begin b.pool.move) _ _ (λ (res : Result). Did b (moment Call.tend res))

@@ -77,8 +77,8 @@ module _ {b : Board} {stage rank : ℕ → ℕ} (f : Fine b stage rank) (a : Are
       sound = f.sound;
       few = f.few;
       rests = λ u i. elim (cases_eq u r) [
-        | inl e ↦ subst (λ (z : Slot). Guarded stage (b.who.awaited u) z.place) (sym (changed_at b.slots r u s e)) (subst (λ (v : ℕ). Guarded stage (b.who.awaited v) s.place) (sym e) g)
-        | inr n ↦ subst (λ (z : Slot). Guarded stage (b.who.awaited u) z.place) (sym (changed_elsewhere b.slots r u s n)) (f.rests u i)
+        | inl e ↦ rw (changed_at b.slots r u s e) (rw e g)
+        | inr n ↦ rw (changed_elsewhere b.slots r u s n) (f.rests u i)
       ];
       idle = f.idle;
     };
@@ -105,11 +105,10 @@ module _ {b : Board} {stage rank : ℕ → ℕ} (f : Fine b stage rank) (a : Are
       sound = sound;
       few = f.few;
       rests = λ u i. elim (cases_eq u r) [
-        | inl e ↦ subst (λ (z : Slot). Guarded stage (w.awaited u) z.place) (sym (changed_at b.slots r u at_rest e)) (at_head (w.awaited u))
+        | inl e ↦ rw (changed_at b.slots r u at_rest e) (at_head (w.awaited u))
         | inr n ↦
             let o = same u n in
-            subst (λ (z : Slot). Guarded stage (w.awaited u) z.place) (sym (changed_elsewhere b.slots r u at_rest n))
-            (subst (λ (v : Bool). Guarded stage v (b.slots u).place) (sym o.1) (f.rests u (cc)))
+            rw (changed_elsewhere b.slots r u at_rest n) (rw o.1 (f.rests u (cc)))
       ];
       idle = λ e. f.idle (cc);
     };
@@ -120,8 +119,7 @@ module _ {b : Board} {stage rank : ℕ → ℕ} (f : Fine b stage rank) (a : Are
 
   pub reader_enters : (making : Making) (r : ℕ) → r < b.readers → b.who.inside r ≡ false → Follows b a stage (moment (Call.enter r) (accepted making b a (Call.enter r)))
   reader_enters making r l out =
-      subst (λ (w : Meaning). Follows b a stage (record { call = Call.enter r; answer = Answer.done; board = with_who w (with_slot r at_rest b); area = a })) (sym in_now)
-      (reader_turns (Call.enter r) r (entered b.who r) (subst Sound in_now (enter_sound r b.who f.sound)) refl
+      rw in_now (reader_turns (Call.enter r) r (entered b.who r) (rw in_now at (enter_sound r b.who f.sound)) refl
       (λ u n. (changed_elsewhere b.who.inside r u true n, changed_elsewhere b.who.awaited r u false n))
       (λ u i n e. both_ways (b.who.inside r) out (cc)))
     where
@@ -130,8 +128,7 @@ module _ {b : Board} {stage rank : ℕ → ℕ} (f : Fine b stage rank) (a : Are
 
   pub reader_leaves : (making : Making) (r : ℕ) → b.who.inside r ≡ true → Follows b a stage (moment (Call.leave r) (accepted making b a (Call.leave r)))
   reader_leaves making r inside =
-      subst (λ (w : Meaning). Follows b a stage (record { call = Call.leave r; answer = Answer.done; board = with_who w (with_slot r at_rest b); area = a })) (sym out_now)
-      (reader_turns (Call.leave r) r (left b.who r) (subst Sound out_now (leave_sound r b.who f.sound)) refl
+      rw out_now (reader_turns (Call.leave r) r (left b.who r) (rw out_now at (leave_sound r b.who f.sound)) refl
       (λ u n. (changed_elsewhere b.who.inside r u false n, changed_elsewhere b.who.awaited r u false n))
       (λ u i n e. n (ap Call.leave (sym e), refl)))
     where
@@ -141,12 +138,12 @@ module _ {b : Board} {stage rank : ℕ → ℕ} (f : Fine b stage rank) (a : Are
   -- ---- a wait begins, or is found over
 
   wait_begins : b.who.waits ≡ false → Follows b a stage (record { call = Call.tend; answer = Answer.begun; board = with_who (on_begin b.who).next (with_pool (covering b.pool) b); area = a })
-  wait_begins e = subst (λ (w : Meaning). Follows b a stage (record { call = Call.tend; answer = Answer.begun; board = with_who w (with_pool (covering b.pool) b); area = a })) (sym begun_now) (record {
+  wait_begins e = rw begun_now (record {
     stage' = λ x. raised 1 2 (stage x);
     rank' = rank;
     fine = record {
       shaped = begin_shaped f.shaped (f.idle e);
-      sound = subst Sound begun_now (begin_sound b.who f.sound);
+      sound = rw begun_now at (begin_sound b.who f.sound);
       few = f.few;
       rests = λ u i. (begin_turned f.shaped a (b.who.awaited u) (b.who.inside u) i).guards (b.slots u).place (f.rests u i);
       idle = λ w. absurd (true≢false w);
@@ -160,12 +157,12 @@ module _ {b : Board} {stage rank : ℕ → ℕ} (f : Fine b stage rank) (a : Are
       begun_now = cond-false b.who.waits b.who (begun b.who) e
 
   wait_over : (w : Answer) → b.who.waits ≡ true → anybody b.who.awaited ≡ false → Follows b a stage (record { call = Call.tend; answer = w; board = with_who (on_poll b.who).next (with_pool (freeing b.pool) b); area = a })
-  wait_over w e g = subst (λ (v : Meaning). Follows b a stage (record { call = Call.tend; answer = w; board = with_who v (with_pool (freeing b.pool) b); area = a })) (sym closed_now) (record {
+  wait_over w e g = rw closed_now (record {
     stage' = λ x. raised 2 3 (stage x);
     rank' = rank;
     fine = record {
       shaped = over_shaped f.shaped;
-      sound = subst Sound closed_now (poll_sound b.who f.sound);
+      sound = rw closed_now at (poll_sound b.who f.sound);
       few = f.few;
       rests = λ u i. (over_turned f.shaped a (b.who.awaited u) false (gone u)).guards (b.slots u).place (f.rests u i);
       idle = λ v. refl;

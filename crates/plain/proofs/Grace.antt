@@ -39,7 +39,7 @@ module _ {size : ℕ} {q : Pool} {stage rank : ℕ → ℕ} (s : Shaped size q s
   begun_somewhere e x (Somewhere.on_list c) = Somewhere.on_list c
   begun_somewhere e x (Somewhere.in_free i) = Somewhere.in_free i
   begun_somewhere e x (Somewhere.in_due i) = Somewhere.in_covered i
-  begun_somewhere e x (Somewhere.in_covered i) = elim (subst (In x) e i) [ ]
+  begun_somewhere e x (Somewhere.in_covered i) = elim (rw e at i) [ ]
 
   over_somewhere : (x : ℕ) → Somewhere q x → Somewhere (freeing q) x
   over_somewhere x (Somewhere.on_list c) = Somewhere.on_list c
@@ -96,5 +96,5 @@ module _ {size : ℕ} {q : Pool} {stage rank : ℕ → ℕ} (s : Shaped size q s
     guards = λ x g. record { live = g.live; waits = λ w. e ∙ g.waits w };
     back = λ x z l b. inl b;
     fwd = λ x z l b. Carried.stays b;
-    owed = λ c w. (subst (λ (v : Bool). Owed q.move v c) e w, λ x b. b);
+    owed = λ c w. (rw e at w, λ x b. b);
   }

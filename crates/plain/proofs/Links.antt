@@ -14,7 +14,7 @@ pub next_at : {lk : ℕ → ℕ} {z x : ℕ} → z ≢ 0 → lk x ≡ z → Ahea
 next_at n e = next (λ q. n (cc)) e
 
 pub more_at : {lk : ℕ → ℕ} {z x y : ℕ} → y ≢ 0 → lk x ≡ y → Ahead lk z y → Ahead lk z x
-more_at {lk} {z} n e a = more (λ q. n (cc)) (subst (Ahead lk z) (sym e) a)
+more_at {lk} {z} n e a = more (λ q. n (cc)) (rw e a)
 
 pub ahead_ne : {lk : ℕ → ℕ} {z x : ℕ} → Ahead lk z x → z ≢ 0
 ahead_ne (next n e) q = n (e ∙ q)
@@ -25,7 +25,7 @@ ahead_link (next n e) = n
 ahead_link (more n a) = n
 
 pub ahead_from : {lk : ℕ → ℕ} {z x y : ℕ} → x ≡ y → Ahead lk z x → Ahead lk z y
-ahead_from {lk} {z} e a = subst (Ahead lk z) e a
+ahead_from {lk} {z} e a = rw e at a
 
 pub ahead_to : {lk : ℕ → ℕ} {z w x : ℕ} → z ≡ w → Ahead lk z x → Ahead lk w x
 ahead_to e (next n q) = next n (q ∙ e)
@@ -49,14 +49,14 @@ pub record Ordered (lk stage rank : ℕ → ℕ) : Type 0 where
 
 module _ {lk stage rank : ℕ → ℕ} (o : Ordered lk stage rank) where
   pub ahead_stage : {z x : ℕ} → stage x < 3 → Ahead lk z x → stage z ≤ stage x
-  ahead_stage {z} {x} l (next n e) = subst (λ (v : ℕ). stage v ≤ stage x) e (o.down x l)
+  ahead_stage {z} {x} l (next n e) = rw e at (o.down x l)
   ahead_stage {z} {x} l (more n a) =
       let d = o.down x l in
       let q = ahead_stage (omega arith) a in
       omega arith
 
   pub ahead_rank : {z x : ℕ} → stage x < 3 → Ahead lk z x → rank z < rank x
-  ahead_rank {z} {x} l (next n e) = subst (λ (v : ℕ). rank v < rank x) e (o.falls x l n)
+  ahead_rank {z} {x} l (next n e) = rw e at (o.falls x l n)
   ahead_rank {z} {x} l (more n a) =
       let d = o.down x l in
       let f = o.falls x l n in
@@ -149,7 +149,7 @@ module _ {lk lk' stage rank : ℕ → ℕ} (o : Ordered lk stage rank) (p y : �
             let d = o.down p (omega arith) in
             let a = changed_at (λ z. 2 * rank z + 2) y x (2 * rank p + 1) q in
             let b = changed_elsewhere (λ z. 2 * rank z + 2) y (lk p) (2 * rank p + 1) (live_ne (lk p) (omega arith)) in
-            subst (λ (w : ℕ). rank' w < rank' x) (sym v) (omega arith)
+            rw v (omega arith)
         | inr q ↦
             let a = changed_elsewhere (λ z. 2 * rank z + 2) y x (2 * rank p + 1) q in
             elim (cases_eq x p) [
@@ -157,7 +157,7 @@ module _ {lk lk' stage rank : ℕ → ℕ} (o : Ordered lk stage rank) (p y : �
                   let v : lk' x ≡ y = cc in
                   let b = changed_at (λ z. 2 * rank z + 2) y y (2 * rank p + 1) refl in
                   let r : rank x ≡ rank p = ap rank e in
-                  subst (λ (w : ℕ). rank' w < rank' x) (sym v) (omega arith)
+                  rw v (omega arith)
               | inr e ↦
                   let v : lk' x ≡ lk x = s.rest x e q in
                   let n' : lk x ≢ 0 = λ w. n (v ∙ w) in
@@ -165,7 +165,7 @@ module _ {lk lk' stage rank : ℕ → ℕ} (o : Ordered lk stage rank) (p y : �
                   let l' = live' x q l in
                   let d = o.down x l' in
                   let b = changed_elsewhere (λ z. 2 * rank z + 2) y (lk x) (2 * rank p + 1) (live_ne (lk x) (omega arith)) in
-                  subst (λ (w : ℕ). rank' w < rank' x) (sym v) (omega arith)
+                  rw v (omega arith)
             ]
       ]
 
@@ -175,20 +175,20 @@ module _ {lk lk' stage rank : ℕ → ℕ} (o : Ordered lk stage rank) (p y : �
             let v : lk' x ≡ lk p = cc in
             let d = o.down p (omega arith) in
             let b = changed_elsewhere stage y (lk p) 0 (live_ne (lk p) (omega arith)) in
-            subst (λ (w : ℕ). stage' w ≤ stage' x) (sym v) (omega arith)
+            rw v (omega arith)
         | inr q ↦
             let a = changed_elsewhere stage y x 0 q in
             elim (cases_eq x p) [
               | inl e ↦
                   let v : lk' x ≡ y = cc in
                   let b = changed_at stage y y 0 refl in
-                  subst (λ (w : ℕ). stage' w ≤ stage' x) (sym v) (omega arith)
+                  rw v (omega arith)
               | inr e ↦
                   let v : lk' x ≡ lk x = s.rest x e q in
                   let l' = live' x q l in
                   let d = o.down x l' in
                   let b = changed_elsewhere stage y (lk x) 0 (live_ne (lk x) (omega arith)) in
-                  subst (λ (w : ℕ). stage' w ≤ stage' x) (sym v) (omega arith)
+                  rw v (omega arith)
             ]
       ]
 
@@ -342,17 +342,17 @@ module _ {lk lk' stage rank : ℕ → ℕ} (o : Ordered lk stage rank) (p : ℕ)
             let v : lk' u ≡ lk x = cc in
             let d = o.down x (omega arith) in
             let b = changed_elsewhere stage x (lk x) 1 after_ne in
-            subst (λ (w : ℕ). stage' w ≤ stage' u) (sym v) (omega arith)
+            rw v (omega arith)
         | inr q ↦
             let v = s.rest u q in
             let l' = live' u l in
             let d = o.down u l' in
-            subst (λ (w : ℕ). stage' w ≤ stage' u) (sym v) (elim (cases_eq u x) [
+            rw v (elim (cases_eq u x) [
               | inl e ↦
                   let t : lk u ≡ lk x = ap lk e in
                   let b = changed_elsewhere stage x (lk x) 1 after_ne in
                   let d' = o.down x (omega arith) in
-                  subst (λ (w : ℕ). stage' w ≤ stage' u) (sym t) (omega arith)
+                  rw t (omega arith)
               | inr e ↦
                   let a = changed_elsewhere stage x u 1 e in
                   elim (cases_eq (lk u) x) [

@@ -43,4 +43,4 @@ module _ (m n s : ℕ) where
 pub fine_made : (m n s : ℕ) {b : Board} → make m n s ≡ inl b → Fine b new_stages (λ x. 0)
 fine_made m n s e =
     let p = made_of m n s e in
-    subst (λ (d : Board). Fine d new_stages (λ x. 0)) p.0 (fine_new m n s p.1 p.2)
+    rw p.0 at (fine_new m n s p.1 p.2)

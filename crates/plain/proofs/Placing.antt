@@ -28,7 +28,7 @@ module _ {size : ℕ} {q : Pool} {stage rank : ℕ → ℕ} (s : Shaped size q s
   head = ap head_or_0 free
 
   fresh : (stage y ≡ 3) × (y ≤ size)
-  fresh = s.books.in_free y (subst (In y) (sym free) (In.first refl))
+  fresh = s.books.in_free y (rw free (In.first refl))
 
   kp : stage p ≡ 0
   kp = elim pa [ inl e ↦ cc | inr a ↦ listed_stage s a ]
@@ -112,7 +112,7 @@ module _ {size : ℕ} {q : Pool} {stage rank : ℕ → ℕ} (s : Shaped size q s
 
   still_somewhere : (x : ℕ) → Somewhere q x → Somewhere q₁ x
   still_somewhere x (Somewhere.on_list c) = Somewhere.on_list (still_ahead listed_live c)
-  still_somewhere x (Somewhere.in_free i) = elim (in_cases (subst (In x) fills.free i)) [
+  still_somewhere x (Somewhere.in_free i) = elim (in_cases (rw fills.free at i)) [
     | inl e ↦ Somewhere.on_list (ahead_to (sym e) new_listed)
     | inr j ↦ Somewhere.in_free j
   ]

@@ -118,7 +118,7 @@ module _ (lk : ℕ → ℕ) where
         let short = few size (reached_apart (suc size) p l) within in
         elim (full_or_chain (suc size) p) [
           | inl h ↦ absurd (let k = h in omega arith)
-          | inr c ↦ subst (Chain lk p) (sym (reached_again size c short)) c
+          | inr c ↦ rw (reached_again size c short) c
         ]
       where
         within : (x : ℕ) → In x (reached (suc size) lk p) → (0 < x) × (x ≤ size)

@@ -68,7 +68,7 @@ module _ {size : ℕ} {q : Pool} {stage rank : ℕ → ℕ} (s : Shaped size q s
     }
 
     ordered₁ : Ordered (link_of q₁) (changed stage x 1) rank
-    ordered₁ = subst (λ (v : ℕ). Ordered (link_of q₁) (changed stage v 1) rank) p_links (skip_ordered s.ordered p skipped kp p_links_ne)
+    ordered₁ = rw p_links at (skip_ordered s.ordered p skipped kp p_links_ne)
 
     pub was_ahead : {z u : ℕ} → Ahead (link_of q₁) z u → Ahead (link_of q) z u
     was_ahead a = skip_back s.ordered p skipped kp p_links_ne a
@@ -114,7 +114,7 @@ module _ {size : ℕ} {q : Pool} {stage rank : ℕ → ℕ} (s : Shaped size q s
         guards = due_kept aw;
         back = λ u z l b. inl (was_ahead b);
         fwd = λ u z l b. elim (cases_eq z x) [
-          | inl e ↦ subst (λ (v : ℕ). Carried q q₁ u v) (sym e) (lost u l (ahead_to e b))
+          | inl e ↦ rw e (lost u l (ahead_to e b))
           | inr n ↦ Carried.stays (still_ahead n b)
         ];
         owed = λ c w. absurd (none aw c w);
@@ -134,7 +134,7 @@ module _ {size : ℕ} {q : Pool} {stage rank : ℕ → ℕ} (s : Shaped size q s
     head = ap head_or_0 free
 
     fresh : (stage y ≡ 3) × (y ≤ size)
-    fresh = s.books.in_free y (subst (In y) (sym free) (In.first refl))
+    fresh = s.books.in_free y (rw free (In.first refl))
 
     y_ne : y ≢ 0
     y_ne e = let h = s.ordered.head in let w = ap stage e in let f = fresh.0 in omega arith
@@ -206,7 +206,7 @@ module _ {size : ℕ} {q : Pool} {stage rank : ℕ → ℕ} (s : Shaped size q s
     lk_y_ne e = ahead_ne xa (sym lk_y ∙ e)
 
     ordered₂ : Ordered (link_of q₂) stage₂ rank₁
-    ordered₂ = subst (λ (v : ℕ). Ordered (link_of q₂) (changed stage₁ v 1) rank₁) lk_y (skip_ordered middle y then_out ky lk_y_ne)
+    ordered₂ = rw lk_y at (skip_ordered middle y then_out ky lk_y_ne)
 
     into_middle : {z u : ℕ} → stage u < 3 → Ahead (link_of q) z u → Ahead lk z u
     into_middle l a = splice_fwd s.ordered p y put_in kp fresh.0 l a
@@ -302,7 +302,7 @@ module _ {size : ℕ} {q : Pool} {stage rank : ℕ → ℕ} (s : Shaped size q s
       | inl e ↦ Somewhere.in_due (In.first e)
       | inr n ↦ Somewhere.on_list (out_of_middle n (into_middle head_live c))
     ]
-    still_somewhere₂ z (Somewhere.in_free i) = elim (in_cases (subst (In z) fills.free i)) [
+    still_somewhere₂ z (Somewhere.in_free i) = elim (in_cases (rw fills.free at i)) [
       | inl e ↦ Somewhere.on_list (ahead_to (sym e) new_listed)
       | inr j ↦ Somewhere.in_free j
     ]
@@ -317,7 +317,7 @@ module _ {size : ℕ} {q : Pool} {stage rank : ℕ → ℕ} (s : Shaped size q s
         ordered = ordered₂;
         books = books₂;
         keys_apart = λ b c ab ac nb nc e. keys₂ still ex b c ab ac e;
-        moved = subst (Moved q₂) (sym still) tt;
+        moved = rw still tt;
         somewhere = λ z n l. still_somewhere₂ z (s.somewhere z n l);
       };
       covered = refl;
@@ -329,9 +329,9 @@ module _ {size : ℕ} {q : Pool} {stage rank : ℕ → ℕ} (s : Shaped size q s
           | inr c ↦ inl c
         ];
         fwd = λ u z l b. elim (cases_eq z x) [
-          | inl e ↦ subst (λ (w : ℕ). Carried q q₂ u w) (sym e) (lost u l ex (ahead_to e b))
+          | inl e ↦ rw e (lost u l ex (ahead_to e b))
           | inr n ↦ Carried.stays (out_of_middle n (into_middle l b))
         ];
-        owed = λ c w. absurd (subst (λ (mv : Move). Owed mv aw c) still w);
+        owed = λ c w. absurd (rw still at w);
       };
     }

@@ -29,8 +29,8 @@ after_none P [] older m e r = absurd (no_moment e)
 after_none P (x ∷ newer) older m e r = absurd (no_moment e)
 
 pub after_more : (P : History → Type 0) {m : Moment} {h : History} → (Removes m → P []) → After (λ g. P (m ∷ g)) h → After P (m ∷ h)
-after_more P f k [] older m e r = f (subst Removes (sym (same_newest e)) r)
-after_more P f k (x ∷ newer) older m e r = subst (λ (y : Moment). P (y ∷ newer)) (same_newest e) (k newer older m (same_older e) r)
+after_more P f k [] older m e r = f (rw (same_newest e) r)
+after_more P f k (x ∷ newer) older m e r = rw (same_newest e) at (k newer older m (same_older e) r)
 
 after_newest : (P : History → Type 0) {m : Moment} {h : History} → Removes m → After P (m ∷ h) → P []
 after_newest P {m = m} {h = h} r a = a [] h m refl r
@@ -134,7 +134,7 @@ module _ {h : History} {m : Moment} {due covered : List ℕ} (i : Chained h due 
 
 -- chains that are equal are chained alike
 chained_as : {h : History} {due covered due' covered' : List ℕ} → due' ≡ due → covered' ≡ covered → Chained h due covered → Chained h due' covered'
-chained_as {h} {due} {covered} {due'} p q c = subst (λ (v : List ℕ). Chained h due' v) (sym q) (subst (λ (v : List ℕ). Chained h v covered) (sym p) c)
+chained_as {h} {due} {covered} {due'} p q c = rw q (rw p c)
 
 chained_on : {h : History} {b : Board} {m : Moment} {stage rank : ℕ → ℕ} → Fine b stage rank → Chained h b.pool.due b.pool.covered → Did b m → Chained (m ∷ h) m.board.pool.due m.board.pool.covered
 chained_on f i (Did.nothing t keeps c) = chained_as c.due c.covered (chained_kept i keeps t.silent.no_begin t.silent.no_over)

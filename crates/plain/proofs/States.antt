@@ -64,20 +64,18 @@ module _ {h : History} {b : Board} {a : Area} (s : State h b a) {m : Moment} (t 
   short_on r j w older e (Walked.ended {m = m₁} {w = w₁} last wk) c =
       let q : m ≡ m₁ = same_newest e in
       let z = n.sized in
-      let l = short_at s.fine t n r j (s.walks r w₁ older (same_older e) wk) (subst (λ (v : Moment). Count (Steps r) (v ∷ w₁) j) (sym q) c) in
+      let l = short_at s.fine t n r j (s.walks r w₁ older (same_older e) wk) (rw q c) in
       omega arith
 
   pub complete_on : WalksAreComplete (m ∷ h)
   complete_on r k m₁ w older e wk re ev =
       let q : m ≡ m₁ = same_newest e in
-      subst (λ (v : Moment). Any (StepsOnKey r k) (v ∷ w)) q
-      (complete_at s.fine t n r k (s.walks r w older (same_older e) wk) (subst (ReachesEnd r) (sym q) re) ev.1)
+      rw q at (complete_at s.fine t n r k (s.walks r w older (same_older e) wk) (rw q re) ev.1)
 
   pub honest_on : WalksAreHonest (m ∷ h)
   honest_on r k m₁ w older e wk on =
       let q : m ≡ m₁ = same_newest e in
-      subst (λ (v : Moment). Any (Listed k) (v ∷ w)) q
-      (honest_at s.fine t n r k (s.walks r w older (same_older e) wk) (subst (StepsOnKey r k) (sym q) on))
+      rw q at (honest_at s.fine t n r k (s.walks r w older (same_older e) wk) (rw q on))
 
 -- ---- every run
 

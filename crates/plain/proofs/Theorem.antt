@@ -23,7 +23,7 @@ record Stop (making : Making) (h : History) (size : ℕ) : Type 0 where
   sized : board.size ≡ size
 
 stop : (making : Making) (later sooner : History) {h : History} {b : Board} {a : Area} → Run (result making) h b a → h ≡ later ++ sooner → Stop making sooner b.size
-stop making [] sooner {h} {b} {a} run e = record { board = b; area = a; run = subst (λ (g : History). Run (result making) g b a) e run; sized = refl }
+stop making [] sooner {h} {b} {a} run e = record { board = b; area = a; run = rw e at run; sized = refl }
 stop making (x ∷ later) sooner (Run.made m n s area made) e = absurd (no_moment e)
 stop making (x ∷ later) sooner (Run.called {b = b} {area = a} run c) e =
     let s = stop making later sooner run (same_older e) in
@@ -36,7 +36,7 @@ always Law making law run later sooner e = let s = stop making later sooner run 
 pub every_use_is_lawful : EveryUseIsLawful
 every_use_is_lawful making h b area run = record {
   sightings_agree = always _ making (λ g d z e r. sightings_agree making r) run;
-  walks_are_short = always _ making (λ g d z e r. subst (λ (size : ℕ). WalksAreShort size g) e (walks_are_short making r)) run;
+  walks_are_short = always _ making (λ g d z e r. rw e at (walks_are_short making r)) run;
   walks_are_complete = always _ making (λ g d z e r. walks_are_complete making r) run;
   walks_are_honest = always _ making (λ g d z e r. walks_are_honest making r) run;
   waits_end_in_time = always _ making (λ g d z e r. waits_end_in_time making r) run;
@@ -55,7 +55,7 @@ pub faithful : {making : Making} {b : Board} {area : Area} {c : Call} {answer : 
     result making b area c ≡ record { answer = answer; board = b'; area = area' } → Faithful making b area c answer b' area'
 faithful {making} {c = c} e = record {
   as_plain = e;
-  goes_on = λ h run. lawful_use making (subst (λ (res : Result). Run (result making) (moment c res ∷ h) res.board res.area) e (Run.called run c));
+  goes_on = λ h run. lawful_use making (rw e at (Run.called run c));
 }
 
 pub as_plain_is_faithful : AsPlainIsFaithful

@@ -118,7 +118,7 @@ module _ {b : Board} {stage rank : ℕ → ℕ} (f : Fine b stage rank) (a : Are
     begins = λ u t.
         let q = t.asked in
         let e : r ≡ u = cc in (
-          subst (λ (v : ℕ). b.who.inside v ≡ true) e i,
+          rw e at i,
           subst (λ (v : ℕ). ((with_slot r (record { walk = Walk.for_key k; place = 0 }) b).slots v).place ≡ 0) e (slot_there r (record { walk = Walk.for_key k; place = 0 })),
         );
     keeps = λ u iu ns nl ne no_step. slot_else r u (record { walk = Walk.for_key k; place = 0 }) (λ e. ns (record { wanted = k; asked = ap (λ (v : ℕ). Call.from v k) (sym e); granted = refl }));
@@ -131,7 +131,7 @@ module _ {b : Board} {stage rank : ℕ → ℕ} (f : Fine b stage rank) (a : Are
   told_end r z = record {
     beholds = λ u x t. absurd (not_sighted t);
     treads = λ u x t. absurd (not_on t);
-    ends = λ u t. let q = t.0 in let e : r ≡ u = cc in subst (λ (v : ℕ). link_of b.pool (b.slots v).place ≡ 0) e z;
+    ends = λ u t. let q = t.0 in let e : r ≡ u = cc in rw e at z;
     begins = λ u t. cc;
     keeps = λ u iu ns nl ne no_step. slot_else r u at_rest (λ e. ne (ap Call.step (sym e), refl));
     steps = λ u. inr ((λ x t. not_on t), (λ t. (t.asked, refl)));
@@ -161,7 +161,7 @@ module _ {b : Board} {stage rank : ℕ → ℕ} (f : Fine b stage rank) (a : Are
       beheld : (u : ℕ) (x : Sighting) → StepsOn u m x → Beholds b a u x
       beheld u x t =
           let o = only u x t in
-          subst (λ (v : ℕ). Beholds b a v x) o.0 (subst (λ (y : Sighting). Beholds b a r y) o.1
+          rw o.0 at (subst (λ (y : Sighting). Beholds b a r y) o.1
           (record { inside = i; ne = ne; stamp = refl; key = refl; fields = refl; where' = inl (next_at ne refl) }))
 
       by_step : {u : ℕ} {x : Sighting} → Sights u x m → Beholds b a u x
@@ -178,7 +178,7 @@ module _ {b : Board} {stage rank : ℕ → ℕ} (f : Fine b stage rank) (a : Are
             (node, cc (slot_there r s));
         ends = λ u t. absurd (not_end t.1);
         begins = λ u t. cc;
-        keeps = λ u iu ns nl ne' no_step. slot_else r u s (λ e. no_step x₀ (subst (λ (v : ℕ). StepsOn v m x₀) (sym e) on));
+        keeps = λ u iu ns nl ne' no_step. slot_else r u s (λ e. no_step x₀ (rw e on));
         steps = λ u. elim (cases_eq r u) [
           | inl e ↦ inl (x₀, subst (λ (v : ℕ). StepsOn v m x₀) e on)
           | inr n ↦ inr ((λ x t. n (only u x t).0), (λ t. absurd (n (let q = t.asked in cc))))
@@ -236,7 +236,7 @@ module _ {b : Board} {stage rank : ℕ → ℕ} (f : Fine b stage rank) (a : Are
           let there = node_there f.shaped k (ap not (ne_eqb x 0 n)) in
           let by : r ≡ u = cc in
           let same : sighting x (b.pool.stamp x) k a ≡ y = cc in
-          subst (λ (o : ℕ). Beholds b a o y) by (subst (λ (o : Sighting). Beholds b a r o) same
+          rw by at (subst (λ (o : Sighting). Beholds b a r o) same
           (record { inside = i; ne = n; stamp = refl; key = there.1; fields = refl; where' = inr there.0 }))
 
   -- ---- every call

@@ -33,7 +33,7 @@ module _ {b : Board} {stage rank : ℕ → ℕ} (f : Fine b stage rank) (a : Are
     | inl z ↦ inl (cond-true (eqb k 0) 0 (node_of b k) (not-false (eqb k 0) z))
     | inr z ↦ elim (cases_Bool (eqb k 0)) [
       | inl w ↦ inl (cond-true (eqb k 0) 0 (node_of b k) w)
-      | inr w ↦ inr (subst (λ (v : ℕ). Ahead lk v 0) (sym (cond-false (eqb k 0) 0 (node_of b k) w)) (node_there s k (not-false (is_listed b k) z)).0)
+      | inr w ↦ inr (rw (cond-false (eqb k 0) 0 (node_of b k) w) (node_there s k (not-false (is_listed b k) z)).0)
     ]
   ]
 
@@ -41,7 +41,7 @@ module _ {b : Board} {stage rank : ℕ → ℕ} (f : Fine b stage rank) (a : Are
   no_old still c i = ahead_ne c (cc)
 
   not_owed : q.move ≡ Move.none → (aw : Bool) (c : ℕ) → Owed q.move aw c → ⊥
-  not_owed still aw c w = subst (λ (m : Move). Owed m aw c) still w
+  not_owed still aw c w = rw still at w
 
   puts : (k h : ℕ) (v w x y : ℤ) → Passed (checks making b a (Call.put k h v w x y)) → Follows b a stage (moment (Call.put k h v w x y) (accepted making b a (Call.put k h v w x y)))
   puts k h v w x y passed =
@@ -53,7 +53,7 @@ module _ {b : Board} {stage rank : ℕ → ℕ} (f : Fine b stage rank) (a : Are
       (placing s k (after b h) (head_or_0 q.free) (tail q.free) (not_empty q.free some_free) (after_there h after_listed) q.move a (made_record (making v w x y))
       (ap old_of still)
       (λ z az n. not_there s k not_listed z az)
-      (subst (Moved (placed_behind k (after b h) q)) (sym still) tt)
+      (rw still tt)
       (not_owed still))
 
   swaps : (k : ℕ) (v w x y : ℤ) → Passed (checks making b a (Call.swap k v w x y)) → Follows b a stage (moment (Call.swap k v w x y) (accepted making b a (Call.swap k v w x y)))
@@ -72,7 +72,7 @@ module _ {b : Board} {stage rank : ℕ → ℕ} (f : Fine b stage rank) (a : Are
       follows_pool f a (Call.cut k) (Answer.removed x (q.stamp x)) (unlinked (before 0 x (listed b)) x q) a
       (removing s x there.0 q.move a
       (λ y z ay az dy dz ny nz i. s.keys_apart y z ay az ny nz i)
-      (subst (Moved (unlinked (before 0 x (listed b)) x q)) (sym still) tt)
+      (rw still tt)
       (not_owed still)
       (λ u l c. Carried.gone (λ w aw i.
       let bw = was_ahead s x there.0 q.move aw in

@@ -54,7 +54,7 @@ module _ {b : Board} {a : Area} {stage rank : ℕ → ℕ} {m : Moment} (f : Fin
       record {
         inside = n.stays r g.0 (starts_stays s);
         trodden = [];
-        way = subst (λ (p : ℕ). Way m.board n.stage' r (m ∷ []) p []) (sym g.1) (way_starts n.fine r m refl);
+        way = rw g.1 (way_starts n.fine r m refl);
         count = λ k c. count_none (count_same (starts_steps s) c);
       }
 
@@ -63,7 +63,7 @@ module _ {b : Board} {a : Area} {stage rank : ℕ → ℕ} {m : Moment} (f : Fin
     | inr no_step ↦ record {
       inside = n.stays r u.inside nl;
       trodden = u.trodden;
-      way = subst (λ (p : ℕ). Way m.board n.stage' r (m ∷ w) p u.trodden) (sym (t.keeps r u.inside ns nl ne no_step.0)) stayed;
+      way = rw (t.keeps r u.inside ns nl ne no_step.0) stayed;
       count = λ k c. u.count k (count_same (λ s. ne (no_step.1 s)) c);
     }
     | inl on ↦ trod on.0 on.1
@@ -81,8 +81,7 @@ module _ {b : Board} {a : Area} {stage rank : ℕ → ℕ} {m : Moment} (f : Fin
           record {
             inside = n.stays r u.inside nl;
             trodden = x.node ∷ u.trodden;
-            way = subst (λ (p : ℕ). Way m.board n.stage' r (m ∷ w) p (x.node ∷ u.trodden)) (sym d.1)
-                (way_goes n.fine r m w (b.slots r).place x.node u.trodden e o.0.ne ((n.turned r u.inside nl).guards (b.slots r).place (f.rests r u.inside)) (record { sighting = x; on = on; key = k }) stayed);
+            way = rw d.1 (way_goes n.fine r m w (b.slots r).place x.node u.trodden e o.0.ne ((n.turned r u.inside nl).guards (b.slots r).place (f.rests r u.inside)) (record { sighting = x; on = on; key = k }) stayed);
             count = λ j c.
                 let s = count_older c in
                 let l = u.count s.0 s.1 in

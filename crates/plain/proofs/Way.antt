@@ -41,8 +41,8 @@ module _ {b : Board} {stage rank : ℕ → ℕ} (f : Fine b stage rank) where
     apart = Apart.nothing;
     live = λ x i. elim i [ ];
     clear = λ x i. elim i [ ];
-    honest = λ z a. Any.here (subst (λ (d : Board). is_listed d (key_of b z) ≡ true) (sym e) (is_there z a));
-    complete = λ k ev. inr (listed_at k (subst (λ (d : Board). is_listed d k ≡ true) e ev.0));
+    honest = λ z a. Any.here (rw e (is_there z a));
+    complete = λ k ev. inr (listed_at k (rw e at ev.0));
     copies = λ c w. inr (owed_listed (b.who.awaited r) c w);
   }
 
@@ -52,7 +52,7 @@ module _ {b : Board} {stage rank : ℕ → ℕ} (f : Fine b stage rank) where
   way_goes r m w p z v e n g on y = record {
     apart = Apart.one_more (λ i. y.clear z i (next_at n e)) y.apart;
     live = λ x i. elim (in_cases i) [
-      | inl q ↦ ((λ o. n (cc)), subst (Guarded stage (b.who.awaited r)) (sym q) gz)
+      | inl q ↦ ((λ o. n (cc)), rw q gz)
       | inr j ↦ y.live x j
     ];
     clear = λ x i a. elim (in_cases i) [
@@ -70,7 +70,7 @@ module _ {b : Board} {stage rank : ℕ → ℕ} (f : Fine b stage rank) where
     copies = λ c o. elim (y.copies c o) [
       | inl s ↦ inl s
       | inr a ↦ elim (split c a) [
-        | inl q ↦ inl (Any.here (subst (λ (l : ℕ). StepsOnKey r l m) (ap (key_of b) q) on))
+        | inl q ↦ inl (Any.here (rw (ap (key_of b) q) at on))
         | inr a' ↦ inr a'
       ]
     ];
@@ -101,7 +101,7 @@ module _ {b : Board} {a : Area} {stage rank : ℕ → ℕ} {m : Moment} (f : Fin
       | inr d ↦ let l = (y.live x j).1.live in let k = d.0 in omega arith
     ];
     honest = λ z c. elim (u.back p z g.live c) [
-      | inl d ↦ Any.there (subst (λ (k : ℕ). Any (Listed k) w) (sym (ahead_key z d)) (y.honest z d))
+      | inl d ↦ Any.there (rw (ahead_key z d) (y.honest z d))
       | inr d ↦ Any.here (is_there n.fine z d.1)
     ];
     complete = λ k ev. elim (y.complete k ev.1) [
@@ -112,7 +112,7 @@ module _ {b : Board} {a : Area} {stage rank : ℕ → ℕ} {m : Moment} (f : Fin
         let t = u.owed c o in
         let k = owed_key (b.who.awaited r) c t.0 in
         elim (y.copies c t.0) [
-          | inl s ↦ inl (Any.there (subst (λ (l : ℕ). Any (StepsOnKey r l) w) (sym k) s))
+          | inl s ↦ inl (Any.there (rw k s))
           | inr d ↦ inr (t.1 p d)
         ];
   }
@@ -135,6 +135,6 @@ module _ {b : Board} {a : Area} {stage rank : ℕ → ℕ} {m : Moment} (f : Fin
       carry k z d e l (Carried.replaced x c q) = inr (x, c, q ∙ e)
       carry k z d e l (Carried.gone lost) = let h = listed_at n.fine k l in absurd (lost h.0 h.1 (cc))
       carry k z d e l (Carried.copied c o q fw) = elim (y.copies c (o (b.who.awaited r))) [
-        | inl s ↦ inl (Any.there (subst (λ (x : ℕ). Any (StepsOnKey r x) w) (q ∙ e) s))
+        | inl s ↦ inl (Any.there (rw (q ∙ e) at s))
         | inr h ↦ inr (c, fw h, owed_key (b.who.awaited r) c (o (b.who.awaited r)) ∙ q ∙ e)
       ]
