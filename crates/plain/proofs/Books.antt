@@ -1,6 +1,6 @@
 -- The kinds, the three chains and the stamps through each change of a pool:
 -- a node is filled, one is removed, a wait begins, a wait is found over; and on a new board. Assumes nothing.
-use Rattle.std.proofs.Common.{◌≡◌, ℕ, suc, ◌<◌, ◌≤◌, ◌≢◌, ◌∷◌, sym, refl, ap, ◌∙◌, subst, inl, inr, arith}
+use Rattle.std.proofs.Common.{◌≡◌, ℕ, suc, ◌<◌, ◌≤◌, ◌≢◌, ◌∷◌, refl, ap, ◌∙◌, inl, inr, arith}
 use Rattle.std.proofs.lemmas.Bool.{cases_eq}
 use Rattle.plain.specs.Changed.{changed}
 use Rattle.plain.proofs.Changed.{changed_at, changed_elsewhere}

@@ -1,6 +1,6 @@
 -- What the scheme below a board was told is a history of its own (Echo), and the scheme's law of waits holds of it.
 -- So it holds of the board: waits end in time. Assumes nothing.
-use Rattle.std.proofs.Common.{◌≡◌, ℕ, not, ◌||◌, ◌↔◌, [], ◌∷◌, ◌++◌, sym, refl, ap, ◌∙◌, subst}
+use Rattle.std.proofs.Common.{◌≡◌, ℕ, not, ◌||◌, ◌↔◌, [], ◌∷◌, ◌++◌, sym, refl, ap, subst}
 use mathlib.Core.Logic.Iff
 use Rattle.std.proofs.lemmas.Bool.{cond_both}
 use Rattle.scheme.specs.declared.interface.Poll.{Poll}
@@ -23,7 +23,7 @@ use Rattle.plain.specs.Sightings.{Leaves, Visiting}
 use Rattle.plain.specs.Waits.{Begins, FindsOver, AllGone, WaitsEndInTime}
 use Rattle.plain.proofs.Checks.{made_of}
 use Rattle.plain.proofs.Events.{Silent, Echoes, Did, did}
-use Rattle.plain.proofs.States.{state, same_newest, same_older, no_moment}
+use Rattle.plain.proofs.States.{state}
 
 -- s has the moments of h that are anything to the scheme
 pub data Echo : History → below.History → Type 0 where
@@ -129,10 +129,10 @@ module _ (making : Making) {b : Board} {a : Area} (start : Moment) (newer older 
       (all_gone_same c.echo_newer c.echo_older))
 
 pub waits_end_in_time : (making : Making) {h : History} {b : Board} {a : Area} → Run (result making) h b a → WaitsEndInTime h
-waits_end_in_time making (Run.made m n s area made) m₁ start newer older e t k not_over = absurd (no_moment e)
+waits_end_in_time making (Run.made m n s area made) m₁ start newer older e t k not_over = cc
 waits_end_in_time making (Run.called {h = h} {b = b} {area = a} run c) m₁ start newer older e t k not_over =
-    let here : moment c (result making b a c) ≡ m₁ = same_newest e in
+    let here : moment c (result making b a c) ≡ m₁ = cc in
     let call : c ≡ Call.tend = cc in
-    let before : h ≡ newer ++ start ∷ older = same_older e in
+    let before : h ≡ newer ++ start ∷ older = cc in
     rw here at (subst (λ (d : Call). FindsOver (moment d (result making b a d)) ↔ AllGone newer older) (sym call)
     (tend_in_time making start newer older (subst (λ (g : History). Run (result making) g b a) before run) k not_over))

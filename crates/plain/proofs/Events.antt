@@ -1,7 +1,7 @@
 -- What each call does as far as visits, removals and waits go: to the scheme's meaning, and to the due and the covered chain (did).
 -- It is told in the scheme's own words, by a call of the scheme. Assumes nothing.
-use Rattle.std.proofs.Common.{◌≡◌, ℕ, Bool, true, false, not, ◌||◌, eqb, ltb, ◌↔◌, List, [], ◌∷◌, sym, refl, ap, ◌∙◌, subst, arith}
-use Rattle.std.proofs.lemmas.Bool.{both_ways, cond_both, leb-false, lt-ltb, and_from, not-false, not_from_false}
+use Rattle.std.proofs.Common.{◌≡◌, ℕ, Bool, true, false, not, ◌||◌, eqb, ltb, ◌↔◌, List, [], ◌∷◌, refl, ap, ◌∙◌, arith}
+use Rattle.std.proofs.lemmas.Bool.{cond_both, leb-false, lt-ltb, and_from, not-false, not_from_false}
 use Rattle.scheme.specs.declared.interface.Poll.{Poll}
 use Rattle.scheme.specs.declared.interface.Poll.TheVariants.{NoWait, NotYet, Over}
 use Rattle.scheme.specs.declared.script.Call.TheVariants.{Enter, Leave, Begin}
@@ -67,31 +67,15 @@ pub data Did (b : Board) (m : Moment) : Type 0 where
 abbrev telling : Call → Bool
 telling (Call.enter r) = true
 telling (Call.leave r) = true
-telling (Call.step r) = false
-telling (Call.look r) = false
-telling (Call.from r k) = false
-telling (Call.aside r k) = false
-telling (Call.put k a v w x y) = false
-telling (Call.swap k v w x y) = false
-telling (Call.cut k) = false
-telling (Call.move k a) = false
-telling Call.finish = false
 telling Call.tend = true
+telling c = false
 
 -- the calls that remove a node
 abbrev pub removing : Call → Bool
-removing (Call.enter r) = false
-removing (Call.leave r) = false
-removing (Call.step r) = false
-removing (Call.look r) = false
-removing (Call.from r k) = false
-removing (Call.aside r k) = false
-removing (Call.put k a v w x y) = false
 removing (Call.swap k v w x y) = true
 removing (Call.cut k) = true
-removing (Call.move k a) = false
 removing Call.finish = true
-removing Call.tend = false
+removing c = false
 
 not_told : {b : Board} {m : Moment} → telling m.call ≡ false → m.board.who ≡ b.who → NotTold b m
 not_told {b} {m} quiet who = record {
@@ -105,12 +89,12 @@ not_told {b} {m} quiet who = record {
 }
   where
     not_by : (c : Call) → telling c ≡ true → m.call ≡ c → ⊥
-    not_by c t e = both_ways (telling c) (cc (quiet)) t
+    not_by c t e = cc (ap telling e)
 
 pub not_removal : {m : Moment} → removing m.call ≡ false → Removes m → ⊥
-not_removal {m} keeps (Removes.by_cut k n s e q) = both_ways (removing m.call) keeps (ap removing e)
-not_removal {m} keeps (Removes.by_swap k v w x y n s e q) = both_ways (removing m.call) keeps (ap removing e)
-not_removal {m} keeps (Removes.by_finish n s e q) = both_ways (removing m.call) keeps (ap removing e)
+not_removal {m} keeps (Removes.by_cut k n s e q) = cc (ap removing e)
+not_removal {m} keeps (Removes.by_swap k v w x y n s e q) = cc (ap removing e)
+not_removal {m} keeps (Removes.by_finish n s e q) = cc (ap removing e)
 
 -- ---- refused calls
 
@@ -134,7 +118,7 @@ did_refused b a c n k = Did.nothing (record { silent = silent; who = refl }) (re
 
 enter_echoes : {r : ℕ} {d : Board} {a : Area} → Echoes (record { call = Call.enter r; answer = Answer.done; board = d; area = a }) (below.moment (Enter r) Accepted)
 enter_echoes = record {
-  enters = λ u. ((λ e. let q = e.0 in cc), (λ e. (cc, refl)));
+  enters = λ u. ((λ e. cc), (λ e. (cc, refl)));
   leaves = λ u. ((λ e. cc), (λ e. cc));
   begins = ((λ e. cc), (λ e. cc));
   overs = ((λ e. cc), (λ e. cc));
@@ -143,7 +127,7 @@ enter_echoes = record {
 leave_echoes : {r : ℕ} {d : Board} {a : Area} → Echoes (record { call = Call.leave r; answer = Answer.done; board = d; area = a }) (below.moment (Leave r) Accepted)
 leave_echoes = record {
   enters = λ u. ((λ e. cc), (λ e. cc));
-  leaves = λ u. ((λ e. let q = e.0 in cc), (λ e. (cc, refl)));
+  leaves = λ u. ((λ e. cc), (λ e. (cc, refl)));
   begins = ((λ e. cc), (λ e. cc));
   overs = ((λ e. cc), (λ e. cc));
 }
@@ -213,15 +197,11 @@ module _ {b : Board} {stage rank : ℕ → ℕ} (f : Fine b stage rank) (a : Are
       let inside : b.who.inside r ≡ true = not-false (b.who.inside r) passed.1.0 in
       visit_did (Call.leave r) _ (Leave r) (record { echoes = answered leave_echoes (ap told inside); who = refl }) (λ e. cc) refl refl
   did_accepted (Call.step r) passed = step_did r _
-  did_accepted (Call.look r) passed = quiet (Call.look r) _ refl refl refl refl refl
-  did_accepted (Call.from r k) passed = quiet (Call.from r k) _ refl refl refl refl refl
-  did_accepted (Call.aside r k) passed = quiet (Call.aside r k) _ refl refl refl refl refl
-  did_accepted (Call.put k h v w x y) passed = quiet (Call.put k h v w x y) _ refl refl refl refl refl
   did_accepted (Call.swap k v w x y) passed = Did.removal _ (not_told refl refl) (Removes.by_swap k v w x y _ _ refl refl) (record { due = refl; covered = refl })
   did_accepted (Call.cut k) passed = Did.removal _ (not_told refl refl) (Removes.by_cut k _ _ refl refl) (record { due = refl; covered = refl })
-  did_accepted (Call.move k h) passed = quiet (Call.move k h) _ refl refl refl refl refl
   did_accepted Call.finish passed = Did.removal _ (not_told refl refl) (Removes.by_finish _ _ refl refl) (record { due = refl; covered = refl })
   did_accepted Call.tend passed = tend_did (on_poll b.who).answer refl (no_wait _ refl)
+  did_accepted c passed = quiet c _ refl refl refl refl refl
 
   pub did : (c : Call) → Did b (moment c (result making b a c))
   did c = checked_both (checks making b a c) (accepted making b a c) (λ number field. unchanged b a (Answer.refused number field)) (λ (res : Result). Did b (moment c res))

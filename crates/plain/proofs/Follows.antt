@@ -1,6 +1,6 @@
 -- What holds of every board (Fine), and what one call gives (Follows).
 -- Each call of a reader that is no step, and tend, keep it. Assumes nothing.
-use Rattle.std.proofs.Common.{◌≡◌, ℕ, ◌<◌, ◌≤◌, Bool, true, false, cond, not, ◌||◌, ltb, ◌≢◌, [], length, sym, refl, ap, ◌∙◌, subst, inl, inr, arith}
+use Rattle.std.proofs.Common.{◌≡◌, ℕ, ◌<◌, ◌≤◌, Bool, true, false, cond, not, ◌||◌, ltb, ◌≢◌, [], length, sym, refl, ap, ◌∙◌, inl, inr, arith}
 use Rattle.std.proofs.lemmas.Bool.{true≢false, both_ways, cases_eq, cond-true, cond-false, cond_both, lt-ltb, and_from, not_from_false}
 use Rattle.scheme.specs.declared.interface.Poll.{Poll}
 use Rattle.scheme.specs.declared.interface.Poll.TheVariants.{NoWait, NotYet, Over}

@@ -1,11 +1,11 @@
 -- A wait begins, and is found over:
 -- the pool is sound again, and a reader that was not awaited stands on no node that is freed. Assumes nothing.
-use Rattle.std.proofs.Common.{◌≡◌, ℕ, Bool, true, false, ◌≢◌, [], sym, refl, ◌∙◌, subst, inl, arith}
+use Rattle.std.proofs.Common.{◌≡◌, ℕ, Bool, true, false, ◌≢◌, [], refl, ◌∙◌, inl, arith}
 use Rattle.std.proofs.lemmas.Bool.{both_ways}
 use Rattle.plain.specs.Pools.{Pool, Move, Need, covering, freeing, at_begin, at_over, old_of}
 use Rattle.plain.specs.Boards.{Area}
 use Rattle.plain.proofs.Links.{raised, raised_cases, begin_ordered, over_ordered}
-use Rattle.plain.proofs.Lists.{In, in_left, in_right}
+use Rattle.plain.proofs.Lists.{in_left, in_right}
 use Rattle.plain.proofs.Shape.{Shaped, Somewhere, Moved, Carried, Turned, Owed}
 use Rattle.plain.proofs.Books.{books_begin, books_over}
 

@@ -1,5 +1,5 @@
 -- What holds of every board holds of a new one, and a board that was made is a new one. Assumes nothing.
-use Rattle.std.proofs.Common.{◌≡◌, ℕ, ◌<◌, ◌≤◌, eqb, refl, ap, subst, inl, arith}
+use Rattle.std.proofs.Common.{◌≡◌, ℕ, ◌<◌, ◌≤◌, eqb, refl, ap, inl, arith}
 use Rattle.std.proofs.lemmas.Bool.{false≢true, cond_both}
 use Rattle.plain.proofs.Changed.{changed_at}
 use Rattle.scheme.proofs.Histories

@@ -1,9 +1,9 @@
 -- A node is put on the list, by a put or a move:
 -- the pool is sound again, and readers can tell no more than Turned says. Assumes nothing.
-use Rattle.std.proofs.Common.{◌≡◌, ℕ, ◌+◌, ◌*◌, ◌<◌, ◌≤◌, Bool, ◌≢◌, ◌⊎◌, List, ◌∷◌, sym, refl, ap, ◌∙◌, subst, inl, inr, arith}
+use Rattle.std.proofs.Common.{◌≡◌, ℕ, ◌+◌, ◌*◌, ◌<◌, ◌≤◌, Bool, ◌≢◌, ◌⊎◌, List, ◌∷◌, sym, refl, ap, ◌∙◌, inl, inr, arith}
 use Rattle.plain.specs.Changed.{changed}
 use Rattle.plain.proofs.Changed.{changed_elsewhere}
-use Rattle.plain.specs.Pools.{Pool, Move, link_of, filled, placed_behind, with_move, head_or_0, tail, old_of}
+use Rattle.plain.specs.Pools.{Pool, Move, link_of, filled, placed_behind, with_move, head_or_0, old_of}
 use Rattle.plain.specs.Boards.{Area, Record, with_record}
 use Rattle.plain.proofs.Links.{Ahead, next_at, ahead_ne, ahead_from, ahead_to, ahead_trans, Ordered, Spliced, splice_fwd, splice_back, splice_ordered}
 use Rattle.plain.proofs.Lists.{In, in_cases}

@@ -1,10 +1,10 @@
 -- A node is taken off the list, by a cut, by the finish of a move, or by a swap, which puts another in its place:
 -- the pool is sound again, and readers can tell no more than Turned says. Assumes nothing.
-use Rattle.std.proofs.Common.{◌≡◌, ℕ, ◌+◌, ◌*◌, ◌<◌, ◌≤◌, Bool, ◌≢◌, ◌⊎◌, List, ◌∷◌, sym, refl, ap, ◌∙◌, subst, inl, inr, arith}
+use Rattle.std.proofs.Common.{◌≡◌, ℕ, ◌+◌, ◌*◌, ◌<◌, ◌≤◌, Bool, ◌≢◌, ◌⊎◌, List, ◌∷◌, sym, refl, ap, ◌∙◌, inl, inr, arith}
 use Rattle.std.proofs.lemmas.Bool.{cases_eq}
 use Rattle.plain.specs.Changed.{changed}
 use Rattle.plain.proofs.Changed.{changed_at, changed_elsewhere}
-use Rattle.plain.specs.Pools.{Pool, Move, link_of, link_to, filled, unlinked, retired, with_move, head_or_0, tail, old_of, before, reached}
+use Rattle.plain.specs.Pools.{Pool, Move, link_of, link_to, filled, unlinked, retired, with_move, head_or_0, old_of, before, reached}
 use Rattle.plain.specs.Boards.{Area, Record, with_record}
 use Rattle.plain.proofs.Links.{Ahead, next_at, ahead_ne, ahead_to, ahead_trans, ahead_stage, Ordered, Spliced, Skipped, splice_fwd, splice_back, splice_ordered, skip_fwd, skip_back, skip_lost, skip_ordered}
 use Rattle.plain.proofs.Lists.{In, in_cases}

@@ -1,5 +1,5 @@
 -- The refusals of every call are in ascending order; after every run the list is whole, and each node is in one place. Assumes nothing.
-use Rattle.std.proofs.Common.{◌≡◌, ℕ, suc, true, eqb, List, [], ◌∷◌, refl, ap, ◌∙◌, inl, inr, arith}
+use Rattle.std.proofs.Common.{◌≡◌, ℕ, suc, true, eqb, List, [], ◌∷◌, refl, ◌∙◌, inl, inr, arith}
 use Rattle.std.proofs.lemmas.Bool.{cond-true, cond-false, eq-eqb, ne_eqb, cases_eq}
 use Rattle.record.specs.Making.{Making}
 use Rattle.plain.specs.Pools.{link_of}
@@ -15,17 +15,7 @@ use Rattle.plain.proofs.States.{state}
 
 calls_ascend : (making : Making) (b : Board) (area : Area) (c : Call) → ascending 0 (checks making b area c) ≡ true
 calls_ascend making b area (Call.enter r) = refl
-calls_ascend making b area (Call.leave r) = refl
-calls_ascend making b area (Call.step r) = refl
-calls_ascend making b area (Call.look r) = refl
-calls_ascend making b area (Call.from r k) = refl
-calls_ascend making b area (Call.aside r k) = refl
-calls_ascend making b area (Call.put k a v w x y) = refl
-calls_ascend making b area (Call.swap k v w x y) = refl
-calls_ascend making b area (Call.cut k) = refl
-calls_ascend making b area (Call.move k a) = refl
-calls_ascend making b area Call.finish = refl
-calls_ascend making b area Call.tend = refl
+calls_ascend making b area c = refl
 
 pub refusals_ascend : RefusalsAscend
 refusals_ascend = record { of_making = λ m n s. refl; of_calls = calls_ascend }

@@ -1,17 +1,19 @@
 -- Along every run: the due chain is empty exactly when each removal lies before the start of a wait,
 -- and the due and the covered chain are exactly when each such wait has been found over. So the counts settle. Assumes nothing.
-use Rattle.std.proofs.Common.{◌≡◌, ℕ, ◌↔◌, List, [], ◌∷◌, ◌++◌, length, sym, refl, ap, subst, arith}
+use Rattle.std.proofs.Common.{◌≡◌, ℕ, ◌↔◌, List, [], ◌∷◌, ◌++◌, length, refl, ap, subst, arith}
+use Rattle.std.proofs.lemmas.List.{nil_from_length}
 use mathlib.Core.Logic.Iff
 use Rattle.scheme.specs.Histories.{Any}
 use Rattle.record.specs.Making.{Making}
 use Rattle.plain.specs.Boards.{Board, Area}
+use Rattle.plain.specs.Calls.{Call}
 use Rattle.plain.specs.Plain.{result}
 use Rattle.plain.specs.History.{Moment, History, Run}
 use Rattle.plain.specs.Waits.{Removes, Begins, FindsOver, WaitPassed, Settled, counts, CountsSettle}
 use Rattle.plain.proofs.Checks.{made_of}
 use Rattle.plain.proofs.Follows.{Fine}
-use Rattle.plain.proofs.Events.{Did, did}
-use Rattle.plain.proofs.States.{state, same_newest, same_older, no_moment}
+use Rattle.plain.proofs.Events.{Did, did, removing, not_removal}
+use Rattle.plain.proofs.States.{state}
 use Rattle.plain.proofs.Counts.{not_listed_count}
 
 -- ---- what came after each removal
@@ -25,12 +27,12 @@ abbrev Covered : History → Type 0
 Covered h = After (Any Begins) h
 
 pub after_none : (P : History → Type 0) → After P []
-after_none P [] older m e r = absurd (no_moment e)
-after_none P (x ∷ newer) older m e r = absurd (no_moment e)
+after_none P [] older m e r = cc
+after_none P (x ∷ newer) older m e r = cc
 
 pub after_more : (P : History → Type 0) {m : Moment} {h : History} → (Removes m → P []) → After (λ g. P (m ∷ g)) h → After P (m ∷ h)
-after_more P f k [] older m e r = f (rw (same_newest e) r)
-after_more P f k (x ∷ newer) older m e r = rw (same_newest e) at (k newer older m (same_older e) r)
+after_more P {m = n} f k [] older m e r = let newest : n ≡ m = cc in f (rw newest r)
+after_more P {m = n} f k (x ∷ newer) older m e r = let newest : n ≡ x = cc in rw newest at (k newer older m (cc) r)
 
 after_newest : (P : History → Type 0) {m : Moment} {h : History} → Removes m → After P (m ∷ h) → P []
 after_newest P {m = m} {h = h} r a = a [] h m refl r
@@ -42,9 +44,6 @@ after_older P {m = m} a newer older n e r = a (m ∷ newer) older n (ap (λ (g :
 
 pub no_any : {P : Moment → Type 0} → Any P [] → ⊥
 no_any w = elim w [ ]
-
-no_passed : WaitPassed [] → ⊥
-no_passed w = elim w [ ]
 
 pub any_older : {P : Moment → Type 0} {m : Moment} {h : History} → ¬ (P m) → Any P (m ∷ h) → Any P h
 any_older n (Any.here p) = absurd (n p)
@@ -91,15 +90,8 @@ record Chained (h : History) (due covered : List ℕ) : Type 0 where
   begun : (due ≡ []) ↔ Covered h
   settled : ((due ≡ []) × (covered ≡ [])) ↔ Settled h
 
-begins_removes_not : {m : Moment} → Begins m → Removes m → ⊥
-begins_removes_not k (Removes.by_cut n s t e q) = cc
-begins_removes_not k (Removes.by_swap n v w x y s t e q) = cc
-begins_removes_not k (Removes.by_finish s t e q) = cc
-
-over_removes_not : {m : Moment} → FindsOver m → Removes m → ⊥
-over_removes_not k (Removes.by_cut n s t e q) = cc
-over_removes_not k (Removes.by_swap n v w x y s t e q) = cc
-over_removes_not k (Removes.by_finish s t e q) = cc
+tend_removes_not : {m : Moment} → m.call ≡ Call.tend → Removes m → ⊥
+tend_removes_not c r = not_removal (ap removing c) r
 
 begins_over_not : {m : Moment} → Begins m → ¬ (FindsOver m)
 begins_over_not k o = cc
@@ -110,13 +102,13 @@ module _ {h : History} {m : Moment} {due covered : List ℕ} (i : Chained h due 
 
   chained_removal : (x : ℕ) → Removes m → Chained (m ∷ h) (x ∷ due) covered
   chained_removal x r = record {
-    begun = ((λ e. cc), (λ k. absurd (no_any (after_newest (Any Begins) r k))));
-    settled = ((λ e. cc), (λ k. absurd (no_passed (after_newest WaitPassed r k))));
+    begun = ((λ e. cc), (λ k. elim (after_newest (Any Begins) r k) [ ]));
+    settled = ((λ e. cc), (λ k. elim (after_newest WaitPassed r k) [ ]));
   }
 
   chained_begins : Begins m → covered ≡ [] → Chained (m ∷ h) [] due
   chained_begins k none =
-      let keeps : ¬ (Removes m) = λ r. begins_removes_not k r in
+      let keeps : ¬ (Removes m) = λ r. tend_removes_not k.0 r in
       let still = settled_kept keeps (begins_over_not k) in
       record {
         begun = ((λ e. covered_begins keeps k), (λ e. refl));
@@ -125,7 +117,7 @@ module _ {h : History} {m : Moment} {due covered : List ℕ} (i : Chained h due 
 
   chained_over : FindsOver m → Chained (m ∷ h) due []
   chained_over k =
-      let keeps : ¬ (Removes m) = λ r. over_removes_not k r in
+      let keeps : ¬ (Removes m) = λ r. tend_removes_not k.asked r in
       let now = settled_over keeps k in
       record {
         begun = Iff.trans i.begun (covered_kept keeps (λ b. begins_over_not b k));
@@ -150,14 +142,10 @@ chained making (Run.called {b = b} {area = a} run c) = let f = (state making run
 
 -- ---- the law
 
-empty : (xs : List ℕ) → length xs ≡ 0 → xs ≡ []
-empty [] e = refl
-empty (x ∷ xs) e = absurd (omega arith)
-
 pub counts_settle : (making : Making) {h : History} {b : Board} {a : Area} → Run (result making) h b a → CountsSettle (counts b) h
 counts_settle making {b = b} run =
     let all = not_listed_count (state making run).fine.shaped in
     let i = chained making run in (
-      (λ e. i.settled.0 (empty b.pool.due (omega arith), empty b.pool.covered (omega arith))),
+      (λ e. i.settled.0 (nil_from_length b.pool.due (omega arith), nil_from_length b.pool.covered (omega arith))),
       (λ s. let p = i.settled.1 s in let d = ap length p.0 in let c = ap length p.1 in omega arith),
     )

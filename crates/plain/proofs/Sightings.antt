@@ -1,6 +1,6 @@
 -- What a reader sighted in its visit still stands on the board, with its stamp, key and record.
 -- So the sightings of a visit agree. Assumes nothing.
-use Rattle.std.proofs.Common.{◌≡◌, ℕ, Bool, true, ◌≢◌, ◌∷◌, sym, ap, ◌∙◌, inl, inr, arith}
+use Rattle.std.proofs.Common.{◌≡◌, ℕ, Bool, true, ◌≢◌, ◌∷◌, inl, inr, arith}
 use Rattle.scheme.specs.Histories.{Since}
 use Rattle.plain.specs.Pools.{Pool, link_of}
 use Rattle.plain.specs.Boards.{Board, Area, record_at}

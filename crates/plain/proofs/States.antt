@@ -1,13 +1,12 @@
 -- What holds along every run: the board is fine, what was sighted stands, and the walks are under way as they should.
 -- So the sightings agree and the walks are short, complete and honest, of every run. Assumes nothing.
 use Rattle.std.proofs.Common.{◌≡◌, ℕ, [], ◌∷◌, ◌++◌, sym, subst, arith}
-use Rattle.scheme.specs.Histories.{Any}
 use Rattle.record.specs.Making.{Making}
 use Rattle.plain.specs.Boards.{Board, Area}
 use Rattle.plain.specs.Plain.{result}
-use Rattle.plain.specs.History.{Moment, History, Run, Count}
+use Rattle.plain.specs.History.{Moment, History, Run}
 use Rattle.plain.specs.Sightings.{Leaves, Sighting, Sighted, SightingsAgree}
-use Rattle.plain.specs.Walks.{Starts, ReachesEnd, Walking, Walked, Steps, StepsOnKey, Listed, WalksAreShort, WalksAreComplete, WalksAreHonest}
+use Rattle.plain.specs.Walks.{Starts, ReachesEnd, Walking, Walked, WalksAreShort, WalksAreComplete, WalksAreHonest}
 use Rattle.plain.proofs.Follows.{Fine, Follows}
 use Rattle.plain.proofs.Uplink.{follows}
 use Rattle.plain.proofs.Told.{Told, told}
@@ -22,27 +21,16 @@ pub record State (h : History) (b : Board) (a : Area) : Type 0 where
   pub seen : (r : ℕ) (x : Sighting) → Sighted r x h → Stands b a stage r x
   pub walks : (r : ℕ) (w older : History) → h ≡ w ++ older → Walking r w → UnderWay b stage r w
 
--- ---- histories that are equal
-
-pub same_newest : {m n : Moment} {g h : History} → ◌≡◌ {A = History} (m ∷ g) (n ∷ h) → m ≡ n
-same_newest e = cc
-
-pub same_older : {m n : Moment} {g h : History} → ◌≡◌ {A = History} (m ∷ g) (n ∷ h) → g ≡ h
-same_older e = cc
-
-pub no_moment : {m : Moment} {h : History} → ◌≡◌ {A = History} [] (m ∷ h) → ⊥
-no_moment e = cc
-
 -- ---- one call more
 
 module _ {h : History} {b : Board} {a : Area} (s : State h b a) {m : Moment} (t : Told b a m) (n : Follows b a s.stage m) where
   walks_on : (r : ℕ) (w older : History) → m ∷ h ≡ w ++ older → Walking r w → UnderWay m.board n.stage' r w
   walks_on r w older e (Walking.starts {m = m₁} st) =
-      let q : m ≡ m₁ = same_newest e in
+      let q : m ≡ m₁ = cc in
       subst (λ (v : Moment). UnderWay m.board n.stage' r (v ∷ [])) q (under_way_starts s.fine t n r (subst (Starts r) (sym q) st))
   walks_on r w older e (Walking.goes_on {m = m₁} {w = w₁} ns nl nf ne wk) =
-      let q : m ≡ m₁ = same_newest e in
-      let u = s.walks r w₁ older (same_older e) wk in
+      let q : m ≡ m₁ = cc in
+      let u = s.walks r w₁ older (cc) wk in
       subst (λ (v : Moment). UnderWay m.board n.stage' r (v ∷ w₁)) q
       (under_way_goes_on s.fine t n r (λ x. ns (subst (Starts r) q x)) (λ x. nl (subst (Leaves r) q x)) (λ x. ne (subst (ReachesEnd r) q x)) u)
 
@@ -62,40 +50,37 @@ module _ {h : History} {b : Board} {a : Area} (s : State h b a) {m : Moment} (t 
       let k = trodden_few n.fine u in
       omega arith
   short_on r j w older e (Walked.ended {m = m₁} {w = w₁} last wk) c =
-      let q : m ≡ m₁ = same_newest e in
+      let q : m ≡ m₁ = cc in
       let z = n.sized in
-      let l = short_at s.fine t n r j (s.walks r w₁ older (same_older e) wk) (rw q c) in
+      let l = short_at s.fine t n r j (s.walks r w₁ older (cc) wk) (rw q c) in
       omega arith
 
   pub complete_on : WalksAreComplete (m ∷ h)
   complete_on r k m₁ w older e wk re ev =
-      let q : m ≡ m₁ = same_newest e in
-      rw q at (complete_at s.fine t n r k (s.walks r w older (same_older e) wk) (rw q re) ev.1)
+      let q : m ≡ m₁ = cc in
+      rw q at (complete_at s.fine t n r k (s.walks r w older (cc) wk) (rw q re) ev.1)
 
   pub honest_on : WalksAreHonest (m ∷ h)
   honest_on r k m₁ w older e wk on =
-      let q : m ≡ m₁ = same_newest e in
-      rw q at (honest_at s.fine t n r k (s.walks r w older (same_older e) wk) (rw q on))
+      let q : m ≡ m₁ = cc in
+      rw q at (honest_at s.fine t n r k (s.walks r w older (cc) wk) (rw q on))
 
 -- ---- every run
 
 no_walk : {r : ℕ} {w : History} (older : History) → [] ≡ w ++ older → Walking r w → ⊥
-no_walk older e (Walking.starts st) = no_moment e
-no_walk older e (Walking.goes_on ns nl nf ne wk) = no_moment e
+no_walk older e (Walking.starts st) = cc
+no_walk older e (Walking.goes_on ns nl nf ne wk) = cc
 
 no_walked : {r : ℕ} {w : History} (older : History) → [] ≡ w ++ older → Walked r w → ⊥
 no_walked older e (Walked.under_way wk) = no_walk older e wk
-no_walked older e (Walked.ended last wk) = no_moment e
-
-none_sighted : {r : ℕ} {x : Sighting} → Sighted r x [] → ⊥
-none_sighted s = elim s [ ]
+no_walked older e (Walked.ended last wk) = cc
 
 pub state : (making : Making) {h : History} {b : Board} {a : Area} → Run (result making) h b a → State h b a
 state making (Run.made m n s area made) = record {
   stage = _;
   rank = _;
   fine = fine_made m n s made;
-  seen = λ r x y. absurd (none_sighted y);
+  seen = λ r x y. elim y [ ];
   walks = λ r w older e wk. absurd (no_walk older e wk);
 }
 state making (Run.called {b = b} {area = a} run c) =
@@ -110,9 +95,9 @@ walks_are_short making (Run.made m n s area made) = λ r j w older e wk c. absur
 walks_are_short making (Run.called {b = b} {area = a} run c) = let s = state making run in short_on s (told s.fine a making c) (follows s.fine a making c)
 
 pub walks_are_complete : (making : Making) {h : History} {b : Board} {a : Area} → Run (result making) h b a → WalksAreComplete h
-walks_are_complete making (Run.made m n s area made) = λ r k m₁ w older e wk re ev. absurd (no_moment e)
+walks_are_complete making (Run.made m n s area made) = λ r k m₁ w older e wk re ev. cc
 walks_are_complete making (Run.called {b = b} {area = a} run c) = let s = state making run in complete_on s (told s.fine a making c) (follows s.fine a making c)
 
 pub walks_are_honest : (making : Making) {h : History} {b : Board} {a : Area} → Run (result making) h b a → WalksAreHonest h
-walks_are_honest making (Run.made m n s area made) = λ r k m₁ w older e wk on. absurd (no_moment e)
+walks_are_honest making (Run.made m n s area made) = λ r k m₁ w older e wk on. cc
 walks_are_honest making (Run.called {b = b} {area = a} run c) = let s = state making run in honest_on s (told s.fine a making c) (follows s.fine a making c)

@@ -1,16 +1,15 @@
 -- Every use of a board is lawful, at every stop.
 -- And what a running board has to show of one call, so that every use goes on lawfully. Assumes nothing.
-use Rattle.std.proofs.Common.{◌≡◌, ℕ, ◌⊎◌, [], ◌∷◌, ◌++◌, sym, refl, ◌∙◌, subst}
+use Rattle.std.proofs.Common.{◌≡◌, ℕ, ◌⊎◌, [], ◌∷◌, ◌++◌, refl, ◌∙◌}
 use Rattle.record.specs.Making.{Making}
 use Rattle.plain.specs.Boards.{Board, Area}
 use Rattle.plain.specs.Calls.{Call, Answer}
-use Rattle.plain.specs.Plain.{Result, make, result}
-use Rattle.plain.specs.History.{moment, History, Run}
-use Rattle.plain.specs.Walks.{WalksAreShort}
+use Rattle.plain.specs.Plain.{make, result}
+use Rattle.plain.specs.History.{History, Run}
 use Rattle.plain.specs.Laws.{Always, EveryUseIsLawful}
 use Rattle.plain.specs.Faithful.{LawfulUse, FaithfulMaking, Faithful, AsPlainIsFaithful}
 use Rattle.plain.proofs.Uplink.{follows}
-use Rattle.plain.proofs.States.{state, same_older, no_moment, sightings_agree, walks_are_short, walks_are_complete, walks_are_honest}
+use Rattle.plain.proofs.States.{state, sightings_agree, walks_are_short, walks_are_complete, walks_are_honest}
 use Rattle.plain.proofs.Echo.{waits_end_in_time}
 use Rattle.plain.proofs.Settled.{counts_settle}
 
@@ -24,9 +23,9 @@ record Stop (making : Making) (h : History) (size : ℕ) : Type 0 where
 
 stop : (making : Making) (later sooner : History) {h : History} {b : Board} {a : Area} → Run (result making) h b a → h ≡ later ++ sooner → Stop making sooner b.size
 stop making [] sooner {h} {b} {a} run e = record { board = b; area = a; run = rw e at run; sized = refl }
-stop making (x ∷ later) sooner (Run.made m n s area made) e = absurd (no_moment e)
+stop making (x ∷ later) sooner (Run.made m n s area made) e = cc
 stop making (x ∷ later) sooner (Run.called {b = b} {area = a} run c) e =
-    let s = stop making later sooner run (same_older e) in
+    let s = stop making later sooner run (cc) in
     record { board = s.board; area = s.area; run = s.run; sized = cc ((follows (state making run).fine a making c).sized) }
 
 -- what holds at the end of every run holds at every stop of one

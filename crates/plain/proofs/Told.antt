@@ -1,6 +1,6 @@
 -- What an answer tells of the reader that called: sightings, the end of a walk, its start; and whose place stays at a call.
 -- This is shown once for every call (told). Assumes nothing.
-use Rattle.std.proofs.Common.{◌≡◌, ℕ, Bool, true, false, not, ◌||◌, eqb, ◌≢◌, ◌⊎◌, sym, refl, ap, ◌∙◌, subst, inl, inr}
+use Rattle.std.proofs.Common.{◌≡◌, ℕ, Bool, true, false, not, ◌||◌, eqb, ◌≢◌, ◌⊎◌, sym, refl, ap, subst, inl, inr}
 use Rattle.std.proofs.lemmas.Bool.{both_ways, cases_eq, eqb-true, eqb-false, ne_eqb, cond_both, not-false}
 use Rattle.scheme.specs.declared.interface.Poll.{Poll}
 use Rattle.plain.proofs.Changed.{changed_at, changed_elsewhere}
@@ -55,18 +55,10 @@ sights_call (Sights.by_aside w n s k v e q x) = inr (w, e)
 -- ---- calls by which no reader steps, looks aside or starts a walk
 
 abbrev walks : Call → Bool
-walks (Call.enter r) = false
-walks (Call.leave r) = false
 walks (Call.step r) = true
-walks (Call.look r) = false
 walks (Call.from r k) = true
 walks (Call.aside r k) = true
-walks (Call.put k h v w x y) = false
-walks (Call.swap k v w x y) = false
-walks (Call.cut k) = false
-walks (Call.move k h) = false
-walks Call.finish = false
-walks Call.tend = false
+walks c = false
 
 told_silent : (b : Board) (a : Area) (m : Moment) → walks m.call ≡ false → ((r : ℕ) → b.who.inside r ≡ true → ¬ (Leaves r m) → (m.board.slots r).place ≡ (b.slots r).place) → Told b a m
 told_silent b a m silent same = record {
@@ -79,7 +71,7 @@ told_silent b a m silent same = record {
 }
   where
     not_by : (c : Call) → m.call ≡ c → walks c ≡ true → ⊥
-    not_by c e t = both_ways (walks c) (cc) t
+    not_by c e t = cc (ap walks e)
 
 -- ---- refused calls
 
@@ -256,15 +248,10 @@ module _ {b : Board} {stage rank : ℕ → ℕ} (f : Fine b stage rank) (a : Are
   told_accepted making (Call.leave u) passed = told_silent b a (moment (Call.leave u) (accepted making b a (Call.leave u))) refl
       (λ r i n. slot_else u r at_rest (λ e. n (ap Call.leave (sym e), refl)))
   told_accepted making (Call.step u) passed = told_step making u passed
-  told_accepted making (Call.look u) passed = told_silent b a (moment (Call.look u) (accepted making b a (Call.look u))) refl (λ r i n. refl)
   told_accepted making (Call.from u k) passed = told_from making u k (not-false (b.who.inside u) passed.1.0)
   told_accepted making (Call.aside u k) passed = told_aside making u k passed
-  told_accepted making (Call.put k h v w x y) passed = told_silent b a (moment (Call.put k h v w x y) (accepted making b a (Call.put k h v w x y))) refl (λ r i n. refl)
-  told_accepted making (Call.swap k v w x y) passed = told_silent b a (moment (Call.swap k v w x y) (accepted making b a (Call.swap k v w x y))) refl (λ r i n. refl)
-  told_accepted making (Call.cut k) passed = told_silent b a (moment (Call.cut k) (accepted making b a (Call.cut k))) refl (λ r i n. refl)
-  told_accepted making (Call.move k h) passed = told_silent b a (moment (Call.move k h) (accepted making b a (Call.move k h))) refl (λ r i n. refl)
-  told_accepted making Call.finish passed = told_silent b a (moment Call.finish (accepted making b a Call.finish)) refl (λ r i n. refl)
   told_accepted making Call.tend passed = told_tend making
+  told_accepted making c passed = told_silent b a (moment c (accepted making b a c)) refl (λ r i n. refl)
 
   pub told : (making : Making) (c : Call) → Told b a (moment c (result making b a c))
   told making c = checked_both (checks making b a c) (accepted making b a c) (λ number field. unchanged b a (Answer.refused number field)) (λ (res : Result). Told b a (moment c res))

@@ -1,6 +1,6 @@
 -- Each accepted put, swap, cut, move, finish and step keeps what holds of every board.
 -- So does every call, accepted or refused (follows). Assumes nothing.
-use Rattle.std.proofs.Common.{◌≡◌, ℕ, ◌<◌, Bool, true, false, cond, not, ◌&&◌, eqb, ◌≢◌, ◌⊎◌, ◌∷◌, ℤ, sym, refl, ap, ◌∙◌, subst, inl, inr, arith}
+use Rattle.std.proofs.Common.{◌≡◌, ℕ, ◌<◌, Bool, true, false, cond, not, ◌&&◌, eqb, ◌≢◌, ◌⊎◌, ◌∷◌, ℤ, sym, refl, ap, ◌∙◌, inl, inr, arith}
 use Rattle.std.proofs.lemmas.Bool.{both_ways, cases_Bool, eqb-false, cond-true, cond-false, cond_both, not-false, and_cases, or_parts, leb-false}
 use Rattle.record.specs.Making.{Making}
 use Rattle.plain.specs.Pools.{Pool, Move, Need, link_of, precedes, old_of, under_way, lacks_wait, with_move, placed_behind, unlinked, before, head_or_0, tail}

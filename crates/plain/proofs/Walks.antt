@@ -1,8 +1,8 @@
 -- Walks under way along a history, with the number of their steps.
 -- At the last step of a walk it is short, complete and honest. Assumes nothing.
-use Rattle.std.proofs.Common.{◌≡◌, ℕ, suc, ◌+◌, ◌≤◌, true, List, [], ◌∷◌, length, sym, refl, ap, ◌∙◌, subst, inl, inr, arith}
+use Rattle.std.proofs.Common.{◌≡◌, ℕ, suc, ◌+◌, ◌≤◌, true, List, [], ◌∷◌, length, refl, subst, inl, inr, arith}
 use Rattle.scheme.specs.Histories.{Any}
-use Rattle.plain.specs.Pools.{Pool, link_of}
+use Rattle.plain.specs.Pools.{link_of}
 use Rattle.plain.specs.Boards.{Board, Area}
 use Rattle.plain.specs.History.{Moment, History, Every, Count}
 use Rattle.plain.specs.Sightings.{Leaves, Sighting, StepsOn, Sights}
