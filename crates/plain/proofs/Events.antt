@@ -1,7 +1,8 @@
 -- What each call does as far as visits, removals and waits go: to the scheme's meaning, and to the due and the covered chain (did).
 -- It is told in the scheme's own words, by a call of the scheme. Assumes nothing.
-use Rattle.std.proofs.Common.{◌≡◌, ℕ, Bool, true, false, not, ◌||◌, eqb, ltb, ◌↔◌, List, [], ◌∷◌, refl, ap, ◌∙◌, arith}
-use Rattle.std.proofs.lemmas.Bool.{cond_both, leb-false, lt-ltb, and_from, not-false, not_from_false}
+use Rattle.std.proofs.Common.{◌≡◌, ℕ, Bool, true, false, not, ◌||◌, eqb, ◌↔◌, List, [], ◌∷◌, refl, ap, ◌∙◌, arith}
+use Rattle.std.proofs.lemmas.Bool.Decides.{nat_tests}
+use Rattle.std.proofs.lemmas.Bool.{cond_both}
 use Rattle.scheme.specs.declared.interface.Poll.{Poll}
 use Rattle.scheme.specs.declared.interface.Poll.TheVariants.{NoWait, NotYet, Over}
 use Rattle.scheme.specs.declared.script.Call.TheVariants.{Enter, Leave, Begin}
@@ -190,11 +191,10 @@ module _ {b : Board} {stage rank : ℕ → ℕ} (f : Fine b stage rank) (a : Are
   did_accepted : (c : Call) → Passed (checks making b a c) → Did b (moment c (accepted making b a c))
   did_accepted (Call.enter r) passed =
       let few = f.few in
-      let known = leb-false b.readers r passed.0 in
-      let may : may_enter r b.who ≡ true = and_from (ltb r 16) (not (b.who.inside r)) (lt-ltb r 16 (omega arith)) (not_from_false (b.who.inside r) passed.1.0) in
+      let may : may_enter r b.who ≡ true = grind (arith, nat_tests) in
       visit_did (Call.enter r) _ (Enter r) (record { echoes = answered enter_echoes (ap told may); who = refl }) (λ e. cc) refl refl
   did_accepted (Call.leave r) passed =
-      let inside : b.who.inside r ≡ true = not-false (b.who.inside r) passed.1.0 in
+      let inside : b.who.inside r ≡ true = grind arith in
       visit_did (Call.leave r) _ (Leave r) (record { echoes = answered leave_echoes (ap told inside); who = refl }) (λ e. cc) refl refl
   did_accepted (Call.step r) passed = step_did r _
   did_accepted (Call.swap k v w x y) passed = Did.removal _ (not_told refl refl) (Removes.by_swap k v w x y _ _ refl refl) (record { due = refl; covered = refl })

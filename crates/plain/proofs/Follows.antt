@@ -1,10 +1,11 @@
 -- What holds of every board (Fine), and what one call gives (Follows).
 -- Each call of a reader that is no step, and tend, keep it. Assumes nothing.
-use Rattle.std.proofs.Common.{◌≡◌, ℕ, ◌<◌, ◌≤◌, Bool, true, false, cond, not, ◌||◌, ltb, ◌≢◌, [], length, sym, refl, ap, ◌∙◌, inl, inr, arith}
-use Rattle.std.proofs.lemmas.Bool.{true≢false, both_ways, cases_eq, cond-true, cond-false, cond_both, lt-ltb, and_from, not_from_false}
+use Rattle.std.proofs.Common.{◌≡◌, ℕ, ◌<◌, ◌≤◌, Bool, true, false, cond, not, ◌||◌, ◌≢◌, [], length, sym, refl, ap, ◌∙◌, inl, inr, arith}
+use Rattle.std.proofs.lemmas.Bool.Decides.{nat_tests}
+use Rattle.std.proofs.lemmas.Bool.{cases_eq, cond_both}
 use Rattle.scheme.specs.declared.interface.Poll.{Poll}
 use Rattle.scheme.specs.declared.interface.Poll.TheVariants.{NoWait, NotYet, Over}
-use Rattle.scheme.specs.Meaning.{Meaning, Sound, anybody, may_enter, entered, left, begun, closed, on_enter, on_leave, on_begin}
+use Rattle.scheme.specs.Meaning.{Meaning, Sound, anybody, entered, left, begun, closed, on_enter, on_leave, on_begin}
 use Rattle.scheme.specs.Polls.{on_poll}
 use Rattle.scheme.specs.Sets.{none_in}
 use Rattle.plain.proofs.Changed.{changed_at, changed_elsewhere}
@@ -121,10 +122,10 @@ module _ {b : Board} {stage rank : ℕ → ℕ} (f : Fine b stage rank) (a : Are
   reader_enters making r l out =
       rw in_now (reader_turns (Call.enter r) r (entered b.who r) (rw in_now at (enter_sound r b.who f.sound)) refl
       (λ u n. (changed_elsewhere b.who.inside r u true n, changed_elsewhere b.who.awaited r u false n))
-      (λ u i n e. both_ways (b.who.inside r) out (cc)))
+      (λ u i n e. cc))
     where
       in_now : (on_enter r b.who).next ≡ entered b.who r
-      in_now = cond-true (may_enter r b.who) (entered b.who r) b.who (and_from (ltb r 16) (not (b.who.inside r)) (lt-ltb r 16 (let k = f.few in omega arith)) (not_from_false (b.who.inside r) out))
+      in_now = grind (arith, nat_tests)
 
   pub reader_leaves : (making : Making) (r : ℕ) → b.who.inside r ≡ true → Follows b a stage (moment (Call.leave r) (accepted making b a (Call.leave r)))
   reader_leaves making r inside =
@@ -133,7 +134,7 @@ module _ {b : Board} {stage rank : ℕ → ℕ} (f : Fine b stage rank) (a : Are
       (λ u i n e. n (ap Call.leave (sym e), refl)))
     where
       out_now : (on_leave r b.who).next ≡ left b.who r
-      out_now = cond-true (b.who.inside r) (left b.who r) b.who inside
+      out_now = rw inside
 
   -- ---- a wait begins, or is found over
 
@@ -146,7 +147,7 @@ module _ {b : Board} {stage rank : ℕ → ℕ} (f : Fine b stage rank) (a : Are
       sound = rw begun_now at (begin_sound b.who f.sound);
       few = f.few;
       rests = λ u i. (begin_turned f.shaped a (b.who.awaited u) (b.who.inside u) i).guards (b.slots u).place (f.rests u i);
-      idle = λ w. absurd (true≢false w);
+      idle = λ w. cc;
     };
     sized = refl;
     stays = λ u i n. i;
@@ -154,7 +155,7 @@ module _ {b : Board} {stage rank : ℕ → ℕ} (f : Fine b stage rank) (a : Are
   })
     where
       begun_now : (on_begin b.who).next ≡ begun b.who
-      begun_now = cond-false b.who.waits b.who (begun b.who) e
+      begun_now = rw e
 
   wait_over : (w : Answer) → b.who.waits ≡ true → anybody b.who.awaited ≡ false → Follows b a stage (record { call = Call.tend; answer = w; board = with_who (on_poll b.who).next (with_pool (freeing b.pool) b); area = a })
   wait_over w e g = rw closed_now (record {
@@ -173,7 +174,7 @@ module _ {b : Board} {stage rank : ℕ → ℕ} (f : Fine b stage rank) (a : Are
   })
     where
       closed_now : (on_poll b.who).next ≡ closed b.who
-      closed_now = cond-true b.who.waits (cond (anybody b.who.awaited) b.who (closed b.who)) b.who e ∙ cond-false (anybody b.who.awaited) b.who (closed b.who) g
+      closed_now = rw (e, g)
 
       gone : (u : ℕ) → b.who.awaited u ≡ false
       gone = none_in b.who.awaited g (known_awaited b.who f.sound)

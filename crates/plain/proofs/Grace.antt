@@ -1,7 +1,6 @@
 -- A wait begins, and is found over:
 -- the pool is sound again, and a reader that was not awaited stands on no node that is freed. Assumes nothing.
 use Rattle.std.proofs.Common.{◌≡◌, ℕ, Bool, true, false, ◌≢◌, [], refl, ◌∙◌, inl, arith}
-use Rattle.std.proofs.lemmas.Bool.{both_ways}
 use Rattle.plain.specs.Pools.{Pool, Move, Need, covering, freeing, at_begin, at_over, old_of}
 use Rattle.plain.specs.Boards.{Area}
 use Rattle.plain.proofs.Links.{raised, raised_cases, begin_ordered, over_ordered}
@@ -80,7 +79,7 @@ module _ {size : ℕ} {q : Pool} {stage rank : ℕ → ℕ} (s : Shaped size q s
   over_turned a aw aw' e = record {
     kept = λ x n l. record { key = refl; stamp = refl; fields = refl };
     guards = λ x g.
-        let n : stage x ≢ 2 = λ w. both_ways aw e (g.waits w) in
+        let n : stage x ≢ 2 = λ w. cc (g.waits w) in
         let l = g.live in
         let c = raised_cases 2 3 (stage x) in
         record { live = omega arith; waits = λ w. absurd (let v = w in omega arith) };

@@ -1,7 +1,8 @@
 -- Which nodes are ahead of a place, by links, where place 0 is before the front; stages and ranks that fall along links.
 -- What splicing a node in, skipping one, and the start and the end of a wait do to them. Assumes nothing.
 use Rattle.std.proofs.Common.{◌≡◌, ℕ, ◌+◌, ◌*◌, ◌<◌, ◌≤◌, cond, eqb, ◌≢◌, ◌⊎◌, sym, refl, ap, ◌∙◌, subst, inl, inr, arith}
-use Rattle.std.proofs.lemmas.Bool.{cases_eq, eq-eqb, ne_eqb, cond-true, cond-false}
+use Rattle.std.proofs.lemmas.Bool.Decides.{nat_tests}
+use Rattle.std.proofs.lemmas.Bool.{cases_eq}
 use Rattle.plain.specs.Changed.{changed}
 use Rattle.plain.proofs.Changed.{changed_at, changed_elsewhere}
 
@@ -402,8 +403,8 @@ raised a b k = cond (eqb k a) b k
 
 pub raised_cases : (a b k : ℕ) → ((k ≡ a) × (raised a b k ≡ b)) ⊎ ((k ≢ a) × (raised a b k ≡ k))
 raised_cases a b k = elim (cases_eq k a) [
-  | inl q ↦ inl (q, cond-true (eqb k a) b k (eq-eqb k a q))
-  | inr q ↦ inr (q, cond-false (eqb k a) b k (ne_eqb k a q))
+  | inl q ↦ inl (q, grind (arith, nat_tests))
+  | inr q ↦ inr (q, grind (arith, nat_tests))
 ]
 
 module _ {lk stage rank : ℕ → ℕ} (o : Ordered lk stage rank) where

@@ -1,6 +1,6 @@
 -- What holds of every board holds of a new one, and a board that was made is a new one. Assumes nothing.
 use Rattle.std.proofs.Common.{◌≡◌, ℕ, ◌<◌, ◌≤◌, eqb, refl, ap, inl, arith}
-use Rattle.std.proofs.lemmas.Bool.{false≢true, cond_both}
+use Rattle.std.proofs.lemmas.Bool.{cond_both}
 use Rattle.plain.proofs.Changed.{changed_at}
 use Rattle.scheme.proofs.Histories
 use Rattle.plain.specs.Pools.{link_of}
@@ -36,7 +36,7 @@ module _ (m n s : ℕ) where
     };
     sound = Histories.sound Histories.Runs.new;
     few = few;
-    rests = λ r i. absurd (false≢true i);
+    rests = λ r i. cc;
     idle = λ e. refl;
   }
 

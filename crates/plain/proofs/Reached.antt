@@ -1,7 +1,7 @@
 -- The chain of nodes ahead of a place, as a list: the node before another, who precedes whom, the first with a key.
 -- The board's own chain, which is followed no further than its size, is the whole chain. Assumes nothing.
 use Rattle.std.proofs.Common.{◌≡◌, ℕ, zero, suc, ◌<◌, ◌≤◌, true, false, cond, eqb, ◌≢◌, ◌⊎◌, List, [], ◌∷◌, length, sym, refl, ap, ◌∙◌, inl, inr, arith}
-use Rattle.std.proofs.lemmas.Bool.{eqb-true, eqb-false, cond_both, cond-true, cond-false, eq-eqb, ne_eqb, true≢false}
+use Rattle.std.proofs.lemmas.Bool.{eqb-true, eqb-false, cond_both, eq-eqb, ne_eqb}
 use Rattle.plain.specs.Pools.{reached, holder, before, precedes}
 use Rattle.plain.proofs.Links.{Ahead, ahead_ne, next_at, more_at, ahead_from, Ordered, not_ahead_of_itself, ahead_stage}
 use Rattle.plain.proofs.Lists.{In, in_cases, Apart, few}
@@ -47,7 +47,7 @@ precedes_ahead {lk} x y (link {y = z} {ys = zs} e n c) i j d = cond_both (eqb z 
       | inr k ↦ ahead_from w (chain_ahead c k)
     ])
     (λ q. cond_both (eqb z x) true (precedes x y zs) (λ b. b ≡ false → Ahead lk x y)
-    (λ v f. absurd (true≢false f))
+    (λ v f. cc)
     (λ v f. elim (in_cases i) [
       | inl w ↦ absurd (eqb-false z x v (sym w))
       | inr i' ↦ elim (in_cases j) [
@@ -97,10 +97,10 @@ module _ (lk : ℕ → ℕ) where
   pub reached_again : (f : ℕ) {p : ℕ} {l : List ℕ} → Chain lk p l → length l ≤ f → reached f lk p ≡ l
   reached_again zero (stop q) h = refl
   reached_again zero (link q n c) h = absurd (let k = h in omega arith)
-  reached_again (suc f) {p} (stop q) h = cond-true (eqb (lk p) 0) [] (lk p ∷ reached f lk (lk p)) (eq-eqb (lk p) 0 q)
+  reached_again (suc f) {p} (stop q) h = rw (eq-eqb (lk p) 0 q)
   reached_again (suc f) {p} (link {y = y} {ys = ys} q n c) h =
       let r = reached_again f c (omega arith) in
-      cc (cond-false (eqb (lk p) 0) [] (lk p ∷ reached f lk (lk p)) (ne_eqb (lk p) 0 (λ v. n (sym q ∙ v))))
+      cc (ne_eqb (lk p) 0 (λ v. n (cc)))
 
   module _ {stage rank : ℕ → ℕ} (o : Ordered lk stage rank) where
     pub reached_apart : (f p : ℕ) → stage p < 3 → Apart (reached f lk p)

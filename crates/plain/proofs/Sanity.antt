@@ -1,6 +1,6 @@
 -- The refusals of every call are in ascending order; after every run the list is whole, and each node is in one place. Assumes nothing.
-use Rattle.std.proofs.Common.{◌≡◌, ℕ, suc, true, eqb, List, [], ◌∷◌, refl, ◌∙◌, inl, inr, arith}
-use Rattle.std.proofs.lemmas.Bool.{cond-true, cond-false, eq-eqb, ne_eqb, cases_eq}
+use Rattle.std.proofs.Common.{◌≡◌, ℕ, suc, true, List, [], ◌∷◌, refl, ap, inl, inr, arith}
+use Rattle.std.proofs.lemmas.Bool.{eq-eqb, ne_eqb, cases_eq}
 use Rattle.record.specs.Making.{Making}
 use Rattle.plain.specs.Pools.{link_of}
 use Rattle.plain.specs.Boards.{Board, Area}
@@ -24,13 +24,13 @@ refusals_ascend = record { of_making = λ m n s. refl; of_calls = calls_ascend }
 
 not_at_all : (x : ℕ) (xs : List ℕ) → ¬ (In x xs) → times x xs ≡ 0
 not_at_all x [] n = refl
-not_at_all x (y ∷ ys) n = cond-false (eqb x y) (suc (times x ys)) (times x ys) (ne_eqb x y (λ e. n (In.first e))) ∙ not_at_all x ys (λ i. n (In.later i))
+not_at_all x (y ∷ ys) n = cc (ne_eqb x y (λ e. n (In.first e)), not_at_all x ys (λ i. n (In.later i)))
 
 once : (x : ℕ) {xs : List ℕ} → Apart xs → In x xs → times x xs ≡ 1
 once x Apart.nothing i = elim i [ ]
 once x (Apart.one_more {x = y} {xs = ys} d a) i = elim (cases_eq x y) [
-  | inl e ↦ cc (cond-true (eqb x y) (suc (times x ys)) (times x ys) (eq-eqb x y e), not_at_all y ys d)
-  | inr n ↦ cond-false (eqb x y) (suc (times x ys)) (times x ys) (ne_eqb x y n) ∙ once x a (elim (in_cases i) [ inl e ↦ absurd (n e) | inr j ↦ j ])
+  | inl e ↦ rw (eq-eqb x y e) (ap suc (not_at_all x ys (λ i. d (rw e at i))))
+  | inr n ↦ cc (ne_eqb x y n, once x a (elim (in_cases i) [ inl e ↦ absurd (n e) | inr j ↦ j ]))
 ]
 
 pub boards_stay_whole : BoardsStayWhole

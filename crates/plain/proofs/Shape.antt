@@ -1,7 +1,7 @@
 -- What holds of the pool of every board (Shaped), with the stage of each node: 0 listed, 1 due, 2 covered, 3 free.
 -- What a call may do to a pool, as far as a reader can tell (Turned). Assumes nothing.
-use Rattle.std.proofs.Common.{◌≡◌, ℕ, ◌<◌, ◌≤◌, Bool, true, false, not, eqb, ◌≢◌, ◌⊎◌, ap, arith}
-use Rattle.std.proofs.lemmas.Bool.{both_ways, eqb-false, ne_eqb, not-true}
+use Rattle.std.proofs.Common.{◌≡◌, ℕ, ◌<◌, ◌≤◌, Bool, true, false, not, eqb, ◌≢◌, ◌⊎◌, arith}
+use Rattle.std.proofs.lemmas.Bool.Decides.{nat_tests}
 use Rattle.plain.specs.Pools.{Pool, Move, Need, link_of, reached, holder, old_of}
 use Rattle.plain.specs.Boards.{Area, record_at}
 use Rattle.plain.proofs.Links.{Ahead, ahead_ne, Ordered, ahead_stage}
@@ -77,17 +77,17 @@ module _ {size : ℕ} {q : Pool} {stage rank : ℕ → ℕ} (s : Shaped size q s
       × (q.key (holder q.key k (reached size (link_of q) 0)) ≡ k)
   node_there k e =
       let l = reached size (link_of q) 0 in
-      let h = holder_holds q.key k l (eqb-false (holder q.key k l) 0 (not-true (eqb (holder q.key k l) 0) e)) in
+      let h = holder_holds q.key k l (grind (arith, nat_tests)) in
       (chain_ahead listed_chain h.0, h.1)
 
   pub there : (k x : ℕ) → Ahead (link_of q) x 0 → q.key x ≡ k → not (eqb (holder q.key k (reached size (link_of q) 0)) 0) ≡ true
   there k x a e =
       let l = reached size (link_of q) 0 in
       let n = holder_there q.key k l x (λ y i. ahead_ne (chain_ahead listed_chain i)) (ahead_chain listed_chain a) e in
-      ap not (ne_eqb (holder q.key k l) 0 n)
+      grind (arith, nat_tests)
 
   pub not_there : (k : ℕ) → not (eqb (holder q.key k (reached size (link_of q) 0)) 0) ≡ false → (x : ℕ) → Ahead (link_of q) x 0 → q.key x ≢ k
-  not_there k f x a e = both_ways (not (eqb (holder q.key k (reached size (link_of q) 0)) 0)) f (there k x a e)
+  not_there k f x a e = cc (there k x a e)
 
 -- ---- what a reader can tell of a change; aw says whether it is awaited
 

@@ -1,7 +1,8 @@
 -- What an answer tells of the reader that called: sightings, the end of a walk, its start; and whose place stays at a call.
 -- This is shown once for every call (told). Assumes nothing.
-use Rattle.std.proofs.Common.{◌≡◌, ℕ, Bool, true, false, not, ◌||◌, eqb, ◌≢◌, ◌⊎◌, sym, refl, ap, subst, inl, inr}
-use Rattle.std.proofs.lemmas.Bool.{both_ways, cases_eq, eqb-true, eqb-false, ne_eqb, cond_both, not-false}
+use Rattle.std.proofs.Common.{◌≡◌, ℕ, Bool, true, false, not, ◌||◌, eqb, ◌≢◌, ◌⊎◌, sym, refl, ap, subst, inl, inr, arith}
+use Rattle.std.proofs.lemmas.Bool.Decides.{nat_tests}
+use Rattle.std.proofs.lemmas.Bool.{cases_eq, eqb-true, eqb-false, cond_both}
 use Rattle.scheme.specs.declared.interface.Poll.{Poll}
 use Rattle.plain.proofs.Changed.{changed_at, changed_elsewhere}
 use Rattle.record.specs.Making.{Making}
@@ -187,7 +188,7 @@ module _ {b : Board} {stage rank : ℕ → ℕ} (f : Fine b stage rank) (a : Are
 
   told_step : (making : Making) (r : ℕ) → Passed (checks making b a (Call.step r)) → Told b a (moment (Call.step r) (accepted making b a (Call.step r)))
   told_step making r passed =
-      let i : b.who.inside r ≡ true = not-false (b.who.inside r) passed.1.0 in
+      let i : b.who.inside r ≡ true = grind arith in
       let z = link_of b.pool (b.slots r).place in
       cond_both (eqb z 0) _ _ (λ (res : Result). Told b a (moment (Call.step r) res))
       (λ w. told_end r (eqb-true z 0 w))
@@ -199,7 +200,7 @@ module _ {b : Board} {stage rank : ℕ → ℕ} (f : Fine b stage rank) (a : Are
 
   told_aside : (making : Making) (r k : ℕ) → Passed (checks making b a (Call.aside r k)) → Told b a (moment (Call.aside r k) (accepted making b a (Call.aside r k)))
   told_aside making r k passed =
-      let i : b.who.inside r ≡ true = not-false (b.who.inside r) passed.1.0 in
+      let i : b.who.inside r ≡ true = grind arith in
       cond_both (eqb x 0) Answer.none (Answer.found_aside x (b.pool.stamp x) k (record_at a x))
       (λ (w : Answer). Told b a (moment (Call.aside r k) (unchanged b a w)))
       (λ z. beside Answer.none (λ u y t. absurd (none_sighted t)))
@@ -225,7 +226,7 @@ module _ {b : Board} {stage rank : ℕ → ℕ} (f : Fine b stage rank) (a : Are
       found_there : {u : ℕ} {y : Sighting} → b.who.inside r ≡ true → x ≢ 0 → Sights u y (moment (Call.aside r k) (unchanged b a (Answer.found_aside x (b.pool.stamp x) k (record_at a x)))) → Beholds b a u y
       found_there i n (Sights.by_step t) = cc (steps_call t)
       found_there {u} {y} i n (Sights.by_aside w n' s l v e q is) =
-          let there = node_there f.shaped k (ap not (ne_eqb x 0 n)) in
+          let there = node_there f.shaped k (grind (arith, nat_tests)) in
           let by : r ≡ u = cc in
           let same : sighting x (b.pool.stamp x) k a ≡ y = cc in
           rw by at (subst (λ (o : Sighting). Beholds b a r o) same
@@ -244,11 +245,11 @@ module _ {b : Board} {stage rank : ℕ → ℕ} (f : Fine b stage rank) (a : Are
 
   told_accepted : (making : Making) (c : Call) → Passed (checks making b a c) → Told b a (moment c (accepted making b a c))
   told_accepted making (Call.enter u) passed = told_silent b a (moment (Call.enter u) (accepted making b a (Call.enter u))) refl
-      (λ r i n. slot_else u r at_rest (λ e. both_ways (b.who.inside u) passed.1.0 (cc)))
+      (λ r i n. slot_else u r at_rest (λ e. cc))
   told_accepted making (Call.leave u) passed = told_silent b a (moment (Call.leave u) (accepted making b a (Call.leave u))) refl
       (λ r i n. slot_else u r at_rest (λ e. n (ap Call.leave (sym e), refl)))
   told_accepted making (Call.step u) passed = told_step making u passed
-  told_accepted making (Call.from u k) passed = told_from making u k (not-false (b.who.inside u) passed.1.0)
+  told_accepted making (Call.from u k) passed = told_from making u k (grind arith)
   told_accepted making (Call.aside u k) passed = told_aside making u k passed
   told_accepted making Call.tend passed = told_tend making
   told_accepted making c passed = told_silent b a (moment c (accepted making b a c)) refl (λ r i n. refl)

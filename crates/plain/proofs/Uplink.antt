@@ -1,7 +1,8 @@
 -- Each accepted put, swap, cut, move, finish and step keeps what holds of every board.
 -- So does every call, accepted or refused (follows). Assumes nothing.
 use Rattle.std.proofs.Common.{◌≡◌, ℕ, ◌<◌, Bool, true, false, cond, not, ◌&&◌, eqb, ◌≢◌, ◌⊎◌, ◌∷◌, ℤ, sym, refl, ap, ◌∙◌, inl, inr, arith}
-use Rattle.std.proofs.lemmas.Bool.{both_ways, cases_Bool, eqb-false, cond-true, cond-false, cond_both, not-false, and_cases, or_parts, leb-false}
+use Rattle.std.proofs.lemmas.Bool.Decides.{nat_tests}
+use Rattle.std.proofs.lemmas.Bool.{cases_eq, ne_eqb, eqb-false, cond_both, or_parts}
 use Rattle.record.specs.Making.{Making}
 use Rattle.plain.specs.Pools.{Pool, Move, Need, link_of, precedes, old_of, under_way, lacks_wait, with_move, placed_behind, unlinked, before, head_or_0, tail}
 use Rattle.plain.specs.Boards.{Board, Area, Walk, at_rest, is_wanted, node_of, is_listed, listed, after, is_earlier, made_record, record_at, with_record}
@@ -29,12 +30,9 @@ module _ {b : Board} {stage rank : ℕ → ℕ} (f : Fine b stage rank) (a : Are
   s = f.shaped
 
   after_there : (k : ℕ) → (not (eqb k 0) && not (is_listed b k)) ≡ false → (after b k ≡ 0) ⊎ Ahead lk (after b k) 0
-  after_there k e = elim (and_cases (not (eqb k 0)) (not (is_listed b k)) e) [
-    | inl z ↦ inl (cond-true (eqb k 0) 0 (node_of b k) (not-false (eqb k 0) z))
-    | inr z ↦ elim (cases_Bool (eqb k 0)) [
-      | inl w ↦ inl (cond-true (eqb k 0) 0 (node_of b k) w)
-      | inr w ↦ inr (rw (cond-false (eqb k 0) 0 (node_of b k) w) (node_there s k (not-false (is_listed b k) z)).0)
-    ]
+  after_there k e = elim (cases_eq k 0) [
+    | inl z ↦ inl (grind (arith, nat_tests))
+    | inr n ↦ inr (rw (ne_eqb k 0 n) (node_there s k (grind (arith, nat_tests))).0)
   ]
 
   no_old : q.move ≡ Move.none → {x : ℕ} → Ahead lk x 0 → x ≢ old_of q.move
@@ -58,7 +56,7 @@ module _ {b : Board} {stage rank : ℕ → ℕ} (f : Fine b stage rank) (a : Are
 
   swaps : (k : ℕ) (v w x y : ℤ) → Passed (checks making b a (Call.swap k v w x y)) → Follows b a stage (moment (Call.swap k v w x y) (accepted making b a (Call.swap k v w x y)))
   swaps k v w x y passed =
-      let there = node_there s k (not-false (is_listed b k) passed.1.1.0) in
+      let there = node_there s k (grind arith) in
       let some_free = passed.1.1.1.0 in
       let still = no_move q.move passed.1.1.1.1.1.0 in
       follows_pool f a (Call.swap k v w x y) (Answer.placed (head_or_0 q.free) q.next_stamp) _ _
@@ -66,7 +64,7 @@ module _ {b : Board} {stage rank : ℕ → ℕ} (f : Fine b stage rank) (a : Are
 
   cuts : (k : ℕ) → Passed (checks making b a (Call.cut k)) → Follows b a stage (moment (Call.cut k) (accepted making b a (Call.cut k)))
   cuts k passed =
-      let there = node_there s k (not-false (is_listed b k) passed.1.0) in
+      let there = node_there s k (grind arith) in
       let still = no_move q.move passed.1.1.0 in
       let x = node_of b k in
       follows_pool f a (Call.cut k) (Answer.removed x (q.stamp x)) (unlinked (before 0 x (listed b)) x q) a
@@ -106,11 +104,8 @@ module _ {b : Board} {stage rank : ℕ → ℕ} (f : Fine b stage rank) (a : Are
       behind : (not (eqb h 0) && not (is_listed b h)) ≡ false → eqb h k ≡ false → is_earlier b k h ≡ false → Ahead (link_of q₁) new old
       behind after_listed other not_earlier =
           let p = or_parts (eqb h 0) (precedes (node_of b h) (node_of b k) (listed b)) not_earlier in
-          let at_h : after b h ≡ node_of b h = cond-false (eqb h 0) 0 (node_of b h) p.0 in
-          let l : is_listed b h ≡ true = elim (and_cases (not (eqb h 0)) (not (is_listed b h)) after_listed) [
-            | inl z ↦ absurd (both_ways (eqb h 0) p.0 (not-false (eqb h 0) z))
-            | inr z ↦ not-false (is_listed b h) z
-          ] in
+          let at_h : after b h ≡ node_of b h = rw p.0 in
+          let l : is_listed b h ≡ true = grind arith in
           let n = node_there s h l in
           let apart : node_of b h ≢ old = λ w. eqb-false h k other (cc) in
           let c = precedes_ahead (node_of b h) old (listed_chain s) (ahead_chain (listed_chain s) n.0) (ahead_chain (listed_chain s) listed_old) apart p.1 in
@@ -123,7 +118,7 @@ module _ {b : Board} {stage rank : ℕ → ℕ} (f : Fine b stage rank) (a : Are
 
     moves : Passed (checks making b a (Call.move k h)) → Follows b a stage (moment (Call.move k h) (accepted making b a (Call.move k h)))
     moves passed =
-        let n = node_there s k (not-false (is_listed b k) passed.1.1.0) in
+        let n = node_there s k (grind arith) in
         let after_listed = passed.1.1.1.0 in
         let other = passed.1.1.1.1.0 in
         let free = not_empty q.free passed.1.1.1.1.1.0 in
@@ -187,7 +182,7 @@ module _ {b : Board} {stage rank : ℕ → ℕ} (f : Fine b stage rank) (a : Are
 
   steps : (r : ℕ) → Passed (checks making b a (Call.step r)) → Follows b a stage (moment (Call.step r) (accepted making b a (Call.step r)))
   steps r passed =
-      let i : b.who.inside r ≡ true = not-false (b.who.inside r) passed.1.0 in
+      let i : b.who.inside r ≡ true = grind arith in
       let z = lk (b.slots r).place in
       let g = goes_on (b.who.awaited r) (b.slots r).place (f.rests r i) in
       cond_both (eqb z 0) _ _ (λ (res : Result). Follows b a stage (moment (Call.step r) res))
@@ -199,8 +194,8 @@ module _ {b : Board} {stage rank : ℕ → ℕ} (f : Fine b stage rank) (a : Are
   -- ---- every call
 
   follows_accepted : (c : Call) → Passed (checks making b a c) → Follows b a stage (moment c (accepted making b a c))
-  follows_accepted (Call.enter r) passed = reader_enters f a making r (leb-false b.readers r passed.0) passed.1.0
-  follows_accepted (Call.leave r) passed = reader_leaves f a making r (not-false (b.who.inside r) passed.1.0)
+  follows_accepted (Call.enter r) passed = reader_enters f a making r (grind (arith, nat_tests)) passed.1.0
+  follows_accepted (Call.leave r) passed = reader_leaves f a making r (grind arith)
   follows_accepted (Call.step r) passed = steps r passed
   follows_accepted (Call.look r) passed = follows_same f a (Call.look r) _
   follows_accepted (Call.from r k) passed = follows_slot f a (Call.from r k) Answer.done r (record { walk = Walk.for_key k; place = 0 }) (at_head f a (b.who.awaited r))
