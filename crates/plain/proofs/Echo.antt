@@ -135,4 +135,4 @@ waits_end_in_time making (Run.called {h = h} {b = b} {area = a} run c) m₁ star
     let call : c ≡ Call.tend = cc in
     let before : h ≡ newer ++ start ∷ older = cc in
     rw here at (subst (λ (d : Call). FindsOver (moment d (result making b a d)) ↔ AllGone newer older) (sym call)
-    (tend_in_time making start newer older (subst (λ (g : History). Run (result making) g b a) before run) k not_over))
+    (tend_in_time making start newer older (rw before at run) k not_over))

@@ -27,12 +27,12 @@ module _ {h : History} {b : Board} {a : Area} (s : State h b a) {m : Moment} (t 
   walks_on : (r : ℕ) (w older : History) → m ∷ h ≡ w ++ older → Walking r w → UnderWay m.board n.stage' r w
   walks_on r w older e (Walking.starts {m = m₁} st) =
       let q : m ≡ m₁ = cc in
-      subst (λ (v : Moment). UnderWay m.board n.stage' r (v ∷ [])) q (under_way_starts s.fine t n r (subst (Starts r) (sym q) st))
+      subst (λ (v : Moment). UnderWay m.board n.stage' r (v ∷ [])) q (under_way_starts s.fine t n r (rw q st))
   walks_on r w older e (Walking.goes_on {m = m₁} {w = w₁} ns nl nf ne wk) =
       let q : m ≡ m₁ = cc in
       let u = s.walks r w₁ older (cc) wk in
       subst (λ (v : Moment). UnderWay m.board n.stage' r (v ∷ w₁)) q
-      (under_way_goes_on s.fine t n r (λ x. ns (subst (Starts r) q x)) (λ x. nl (subst (Leaves r) q x)) (λ x. ne (subst (ReachesEnd r) q x)) u)
+      (under_way_goes_on s.fine t n r (λ x. ns (rw q at x)) (λ x. nl (rw q at x)) (λ x. ne (rw q at x)) u)
 
   pub state_on : State (m ∷ h) m.board m.area
   state_on = record {
