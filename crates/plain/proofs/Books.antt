@@ -50,14 +50,13 @@ module _ {size : ℕ} {q q' : Pool} {stage : ℕ → ℕ} {y : ℕ} (k : Books s
 
       below : (x : ℕ) → q'.stamp x < q'.next_stamp
       below x =
-          let n = f.next_stamp in
           elim (cases_eq x y) [
             | inl e ↦ let w = ap (λ (z : ℕ). q'.stamp z) e ∙ f.stamp_new in omega arith
-            | inr e ↦ let w = f.stamp_old x e in let b = k.stamps_below x in omega arith
+            | inr e ↦ omega arith
           ]
 
       new_alone : (x : ℕ) → x ≢ y → q'.stamp x ≢ q.next_stamp
-      new_alone x n e = let w = f.stamp_old x n in let b = k.stamps_below x in omega arith
+      new_alone x n e = omega arith
 
       apart : (x z : ℕ) → x ≢ 0 → z ≢ 0 → changed stage y 0 x < 3 → changed stage y 0 z < 3 → q'.stamp x ≡ q'.stamp z → x ≡ z
       apart x z nx nz lx lz e = elim (cases_eq x y) [
@@ -95,7 +94,7 @@ module _ {size : ℕ} {q q' : Pool} {stage : ℕ → ℕ} {x : ℕ} (k : Books s
     apart_free = rw f.free k.apart_free;
     apart_due = rw f.due (Apart.one_more (λ i. let r = k.in_due x i in omega arith) k.apart_due);
     apart_covered = rw f.covered k.apart_covered;
-    stamps_below = λ z. let e = f.stamp z in let n = f.next_stamp in let b = k.stamps_below z in omega arith;
+    stamps_below = λ z. let e = f.stamp z in let n = f.next_stamp in omega arith;
     stamps_apart = λ u v nu nv lu lv e. k.stamps_apart u v nu nv (live u lu) (live v lv) (cc (f.stamp u, f.stamp v));
   }
     where
@@ -115,7 +114,7 @@ books_begin {size} {q} {stage} k = record {
   bounded = λ x l. k.bounded x (live x l);
   in_free = λ x i. let r = k.in_free x i in let c = raised_cases 1 2 (stage x) in (omega arith, r.1);
   in_due = λ x i. elim i [ ];
-  in_covered = λ x i. let r = k.in_due x i in let c = raised_cases 1 2 (stage x) in omega arith;
+  in_covered = λ x i. let c = raised_cases 1 2 (stage x) in omega arith;
   apart_free = k.apart_free;
   apart_due = Apart.nothing;
   apart_covered = k.apart_due;
@@ -135,9 +134,9 @@ books_over {size} {q} {stage} k = record {
         | inl j ↦ let r = k.in_covered x j in (omega arith, k.bounded x (omega arith))
         | inr j ↦ let r = k.in_free x j in (omega arith, r.1)
       ];
-  in_due = λ x i. let r = k.in_due x i in let c = raised_cases 2 3 (stage x) in omega arith;
+  in_due = λ x i. let c = raised_cases 2 3 (stage x) in omega arith;
   in_covered = λ x i. elim i [ ];
-  apart_free = apart_append k.apart_covered k.apart_free (λ x i j. let r = k.in_covered x i in let f = k.in_free x j in omega arith);
+  apart_free = apart_append k.apart_covered k.apart_free (λ x i j. let f = k.in_free x j in omega arith);
   apart_due = k.apart_due;
   apart_covered = Apart.nothing;
   stamps_below = k.stamps_below;

@@ -22,21 +22,21 @@ module _ {size : ℕ} {q : Pool} {stage rank : ℕ → ℕ} (s : Shaped size q s
 
   in_off : (x : ℕ) → In x off_list → (stage x ≢ 0) × (x ≤ size)
   in_off x i = elim (in_append q.free i) [
-    | inl j ↦ let k = s.books.in_free x j in ((λ e. let n = k.0 in omega arith), k.1)
+    | inl j ↦ let k = s.books.in_free x j in ((λ e. omega arith), k.1)
     | inr j ↦ elim (in_append q.due j) [
-      | inl l ↦ let k = s.books.in_due x l in ((λ e. omega arith), s.books.bounded x (omega arith))
-      | inr l ↦ let k = s.books.in_covered x l in ((λ e. omega arith), s.books.bounded x (omega arith))
+      | inl l ↦ ((λ e. omega arith), s.books.bounded x (omega arith))
+      | inr l ↦ ((λ e. omega arith), s.books.bounded x (omega arith))
     ]
   ]
 
   listed_apart : Apart on_list
-  listed_apart = reached_apart (link_of q) s.ordered size 0 (let h = s.ordered.head in omega arith)
+  listed_apart = reached_apart (link_of q) s.ordered size 0 (omega arith)
 
   pub all_apart : Apart (on_list ++ off_list)
   all_apart = apart_append listed_apart
       (apart_append s.books.apart_free
-      (apart_append s.books.apart_due s.books.apart_covered (λ x i j. let k = s.books.in_due x i in let l = s.books.in_covered x j in omega arith))
-      (λ x i j. let k = (s.books.in_free x i).0 in elim (in_append q.due j) [
+      (apart_append s.books.apart_due s.books.apart_covered (λ x i j. let l = s.books.in_covered x j in omega arith))
+      (λ x i j. elim (in_append q.due j) [
         | inl l ↦ let m = s.books.in_due x l in omega arith
         | inr l ↦ let m = s.books.in_covered x l in omega arith
       ]))
@@ -45,8 +45,7 @@ module _ {size : ℕ} {q : Pool} {stage rank : ℕ → ℕ} (s : Shaped size q s
   list_in_range : (x : ℕ) → In x on_list → (0 < x) × (x ≤ size)
   list_in_range x j =
       let k = in_list x j in
-      let n = k.1 in
-      (omega arith, s.books.bounded x (let e = k.0 in omega arith))
+      (omega arith, s.books.bounded x (omega arith))
 
   pub listed_few : length (reached size (link_of q) 0) ≤ size
   listed_few = few size listed_apart list_in_range

@@ -89,7 +89,7 @@ module _ {b : Board} {stage rank : ℕ → ℕ} (f : Fine b stage rank) (a : Are
   }
 
   pub at_head : (aw : Bool) → Guarded stage aw 0
-  at_head aw = let h = f.shaped.ordered.head in record { live = omega arith; waits = λ w. absurd (let v = w in omega arith) }
+  at_head aw = record { live = omega arith; waits = λ w. absurd (omega arith) }
 
   -- ---- a visit starts or ends
 

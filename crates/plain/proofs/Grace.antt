@@ -82,7 +82,7 @@ module _ {size : ℕ} {q : Pool} {stage rank : ℕ → ℕ} (s : Shaped size q s
         let n : stage x ≢ 2 = λ w. cc (g.waits w) in
         let l = g.live in
         let c = raised_cases 2 3 (stage x) in
-        record { live = omega arith; waits = λ w. absurd (let v = w in omega arith) };
+        record { live = omega arith; waits = λ w. absurd (omega arith) };
     back = λ x z l b. inl b;
     fwd = λ x z l b. Carried.stays b;
     owed = λ c w. (owed_over q.move aw aw' c e w, λ x b. b);

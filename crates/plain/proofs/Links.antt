@@ -52,15 +52,12 @@ module _ {lk stage rank : ℕ → ℕ} (o : Ordered lk stage rank) where
   pub ahead_stage : {z x : ℕ} → stage x < 3 → Ahead lk z x → stage z ≤ stage x
   ahead_stage {z} {x} l (next n e) = rw e at (o.down x l)
   ahead_stage {z} {x} l (more n a) =
-      let d = o.down x l in
       let q = ahead_stage (omega arith) a in
       omega arith
 
   pub ahead_rank : {z x : ℕ} → stage x < 3 → Ahead lk z x → rank z < rank x
   ahead_rank {z} {x} l (next n e) = rw e at (o.falls x l n)
   ahead_rank {z} {x} l (more n a) =
-      let d = o.down x l in
-      let f = o.falls x l n in
       let q = ahead_rank (omega arith) a in
       omega arith
 
@@ -80,7 +77,7 @@ pub record Skipped (lk lk' : ℕ → ℕ) (p : ℕ) : Type 0 where
 
 module _ {lk lk' stage rank : ℕ → ℕ} (o : Ordered lk stage rank) (p y : ℕ) (s : Spliced lk lk' p y) (kp : stage p ≡ 0) (ky : stage y ≡ 3) where
   y_ne : y ≢ 0
-  y_ne e = let h = ap stage e in let k = o.head in omega arith
+  y_ne e = let h = ap stage e in omega arith
 
   live_ne : (x : ℕ) → stage x < 3 → x ≢ y
   live_ne x l e = let h = ap stage e in omega arith
@@ -91,7 +88,6 @@ module _ {lk lk' stage rank : ℕ → ℕ} (o : Ordered lk stage rank) (p y : �
     | inr q ↦ next_at (λ w. n (e ∙ w)) (s.rest x q (live_ne x l) ∙ e)
   ]
   splice_fwd {z} {x} l (more n a) =
-      let d = o.down x l in
       let b = splice_fwd (omega arith) a in
       elim (cases_eq x p) [
         | inl q ↦ more_at y_ne (cc) (more_at n (cc) b)
@@ -109,14 +105,12 @@ module _ {lk lk' stage rank : ℕ → ℕ} (o : Ordered lk stage rank) (p y : �
   splice_back_both {z} {x} (more n a) = let b = splice_back_both a in (
     (λ q.
         let v : lk p ≡ lk' x = cc in
-        let d = o.down p (omega arith) in
         let l : stage (lk' x) < 3 = subst (λ (w : ℕ). stage w < 3) v (omega arith) in
         elim (b.1 l) [ inl e ↦ inl e | inr c ↦ inr (more_at n v c) ]),
     (λ l. elim (cases_eq x p) [
       | inl q ↦ elim (b.0 (cc)) [ inl e ↦ inl e | inr c ↦ inr (ahead_from (sym q) c) ]
       | inr q ↦
           let v : lk x ≡ lk' x = sym (s.rest x q (live_ne x l)) in
-          let d = o.down x l in
           let l' : stage (lk' x) < 3 = subst (λ (w : ℕ). stage w < 3) v (omega arith) in
           elim (b.1 l') [ inl e ↦ inl e | inr c ↦ inr (more_at n v c) ]
     ]),
@@ -146,8 +140,6 @@ module _ {lk lk' stage rank : ℕ → ℕ} (o : Ordered lk stage rank) (p y : �
         | inl q ↦
             let v : lk' x ≡ lk p = cc in
             let n' : lk p ≢ 0 = λ w. n (v ∙ w) in
-            let f = o.falls p (omega arith) n' in
-            let d = o.down p (omega arith) in
             let a = changed_at (λ z. 2 * rank z + 2) y x (2 * rank p + 1) q in
             let b = changed_elsewhere (λ z. 2 * rank z + 2) y (lk p) (2 * rank p + 1) (live_ne (lk p) (omega arith)) in
             rw v (omega arith)
@@ -162,9 +154,7 @@ module _ {lk lk' stage rank : ℕ → ℕ} (o : Ordered lk stage rank) (p y : �
               | inr e ↦
                   let v : lk' x ≡ lk x = s.rest x e q in
                   let n' : lk x ≢ 0 = λ w. n (v ∙ w) in
-                  let f = o.falls x (live' x q l) n' in
                   let l' = live' x q l in
-                  let d = o.down x l' in
                   let b = changed_elsewhere (λ z. 2 * rank z + 2) y (lk x) (2 * rank p + 1) (live_ne (lk x) (omega arith)) in
                   rw v (omega arith)
             ]
@@ -174,7 +164,6 @@ module _ {lk lk' stage rank : ℕ → ℕ} (o : Ordered lk stage rank) (p y : �
       down' x l = elim (cases_eq x y) [
         | inl q ↦
             let v : lk' x ≡ lk p = cc in
-            let d = o.down p (omega arith) in
             let b = changed_elsewhere stage y (lk p) 0 (live_ne (lk p) (omega arith)) in
             rw v (omega arith)
         | inr q ↦
@@ -186,8 +175,6 @@ module _ {lk lk' stage rank : ℕ → ℕ} (o : Ordered lk stage rank) (p y : �
                   rw v (omega arith)
               | inr e ↦
                   let v : lk' x ≡ lk x = s.rest x e q in
-                  let l' = live' x q l in
-                  let d = o.down x l' in
                   let b = changed_elsewhere stage y (lk x) 0 (live_ne (lk x) (omega arith)) in
                   rw v (omega arith)
             ]
@@ -200,11 +187,9 @@ module _ {lk lk' stage rank : ℕ → ℕ} (o : Ordered lk stage rank) (p y : �
         | inr q ↦ elim (cases_eq b y) [
           | inl w ↦
               let v : lk p ≡ y = cc in
-              let d = o.down p (omega arith) in
               absurd (live_ne (lk p) (omega arith) v)
           | inr w ↦
               let l : stage b < 3 = live' b w (omega arith) in
-              let d = o.down b l in
               absurd (live_ne (lk b) (omega arith) (cc (s.rest b q w)))
         ]
       ]
@@ -212,7 +197,6 @@ module _ {lk lk' stage rank : ℕ → ℕ} (o : Ordered lk stage rank) (p y : �
       to_after : (b : ℕ) → b ≢ y → stage' b ≡ 0 → lk' b ≡ lk p → lk' b ≢ 0 → ⊥
       to_after b w kb e n = elim (cases_eq b p) [
         | inl q ↦
-            let d = o.down p (omega arith) in
             live_ne (lk p) (omega arith) (cc)
         | inr q ↦
             let v : lk' b ≡ lk b = s.rest b q w in
@@ -307,7 +291,7 @@ module _ {lk lk' stage rank : ℕ → ℕ} (o : Ordered lk stage rank) (p : ℕ)
       stage' = changed stage x 1
 
       kx : stage x ≡ 0
-      kx = let d = o.down p (omega arith) in omega arith
+      kx = omega arith
 
       live' : (u : ℕ) → stage' u < 3 → stage u < 3
       live' u l = elim (cases_eq u x) [
@@ -316,17 +300,16 @@ module _ {lk lk' stage rank : ℕ → ℕ} (o : Ordered lk stage rank) (p : ℕ)
       ]
 
       p_ne : p ≢ x
-      p_ne e = let f = o.falls p (omega arith) ne in let g = ap rank e in omega arith
+      p_ne e = let g = ap rank e in omega arith
 
       after_ne : lk x ≢ x
-      after_ne e = let f = o.falls x (omega arith) (λ w. ne (cc)) in let g = ap rank e in omega arith
+      after_ne e = let g = ap rank e in omega arith
 
       falls' : (u : ℕ) → stage' u < 3 → lk' u ≢ 0 → rank (lk' u) < rank u
       falls' u l n = elim (cases_eq u p) [
         | inl q ↦
             let v : lk' u ≡ lk x = cc in
             let f = o.falls p (omega arith) ne in
-            let g = o.falls x (omega arith) (λ w. n (v ∙ w)) in
             let r = ap rank q in
             let t = ap rank v in
             omega arith
@@ -341,18 +324,14 @@ module _ {lk lk' stage rank : ℕ → ℕ} (o : Ordered lk stage rank) (p : ℕ)
       down' u l = elim (cases_eq u p) [
         | inl q ↦
             let v : lk' u ≡ lk x = cc in
-            let d = o.down x (omega arith) in
             let b = changed_elsewhere stage x (lk x) 1 after_ne in
             rw v (omega arith)
         | inr q ↦
             let v = s.rest u q in
-            let l' = live' u l in
-            let d = o.down u l' in
             rw v (elim (cases_eq u x) [
               | inl e ↦
                   let t : lk u ≡ lk x = ap lk e in
                   let b = changed_elsewhere stage x (lk x) 1 after_ne in
-                  let d' = o.down x (omega arith) in
                   rw t (omega arith)
               | inr e ↦
                   let a = changed_elsewhere stage x u 1 e in
@@ -410,12 +389,11 @@ raised_cases a b k = elim (cases_eq k a) [
 module _ {lk stage rank : ℕ → ℕ} (o : Ordered lk stage rank) where
   pub begin_ordered : Ordered lk (λ x. raised 1 2 (stage x)) rank
   begin_ordered = record {
-    head = let c = raised_cases 1 2 (stage 0) in let h = o.head in omega arith;
+    head = let c = raised_cases 1 2 (stage 0) in omega arith;
     falls = λ x l n. o.falls x (live x l) n;
     down = λ x l.
         let c = raised_cases 1 2 (stage x) in
         let e = raised_cases 1 2 (stage (lk x)) in
-        let d = o.down x (live x l) in
         omega arith;
     single = λ x y kx ky e n. o.single x y (listed x kx) (listed y ky) e n;
   }
@@ -428,12 +406,11 @@ module _ {lk stage rank : ℕ → ℕ} (o : Ordered lk stage rank) where
 
   pub over_ordered : Ordered lk (λ x. raised 2 3 (stage x)) rank
   over_ordered = record {
-    head = let c = raised_cases 2 3 (stage 0) in let h = o.head in omega arith;
+    head = let c = raised_cases 2 3 (stage 0) in omega arith;
     falls = λ x l n. o.falls x (live x l) n;
     down = λ x l.
         let c = raised_cases 2 3 (stage x) in
         let e = raised_cases 2 3 (stage (lk x)) in
-        let d = o.down x (live x l) in
         omega arith;
     single = λ x y kx ky e n. o.single x y (listed x kx) (listed y ky) e n;
   }

@@ -26,7 +26,7 @@ module _ (m n s : ℕ) where
       ordered = record {
         head = stage_0;
         falls = λ x l d. absurd (d (no_link x));
-        down = λ x l. let e = ap new_stages (no_link x) in let w = stage_0 in omega arith;
+        down = λ x l. let e = ap new_stages (no_link x) in omega arith;
         single = λ x y kx ky e d. absurd (d (no_link x));
       };
       books = books_new m n s stamps;

@@ -34,7 +34,7 @@ module _ {size : ℕ} {q : Pool} {stage rank : ℕ → ℕ} (s : Shaped size q s
   kp = elim pa [ inl e ↦ cc | inr a ↦ listed_stage s a ]
 
   pub y_ne : y ≢ 0
-  y_ne e = let h = s.ordered.head in let w = ap stage e in let f = fresh.0 in omega arith
+  y_ne e = let w = ap stage e in let f = fresh.0 in omega arith
 
   live_ne : (x : ℕ) → stage x < 3 → x ≢ y
   live_ne x l e = let w = ap stage e in let f = fresh.0 in omega arith
@@ -75,7 +75,7 @@ module _ {size : ℕ} {q : Pool} {stage rank : ℕ → ℕ} (s : Shaped size q s
   still_ahead l a = splice_fwd s.ordered p y spliced kp fresh.0 l a
 
   pub listed_live : stage 0 < 3
-  listed_live = let h = s.ordered.head in omega arith
+  listed_live = omega arith
 
   pub behind_p : Ahead (link_of q₁) y p
   behind_p = next_at y_ne spliced.at_p

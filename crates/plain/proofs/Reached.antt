@@ -96,7 +96,7 @@ module _ (lk : ℕ → ℕ) where
 
   pub reached_again : (f : ℕ) {p : ℕ} {l : List ℕ} → Chain lk p l → length l ≤ f → reached f lk p ≡ l
   reached_again zero (stop q) h = refl
-  reached_again zero (link q n c) h = absurd (let k = h in omega arith)
+  reached_again zero (link q n c) h = absurd (omega arith)
   reached_again (suc f) {p} (stop q) h = rw (eq-eqb (lk p) 0 q)
   reached_again (suc f) {p} (link {y = y} {ys = ys} q n c) h =
       let r = reached_again f c (omega arith) in
@@ -108,7 +108,6 @@ module _ (lk : ℕ → ℕ) where
     reached_apart (suc f) p l = cond_both (eqb (lk p) 0) [] (lk p ∷ reached f lk (lk p)) Apart
         (λ q. Apart.nothing)
         (λ q.
-        let d = o.down p l in
         let k : stage (lk p) < 3 = omega arith in
         Apart.one_more (λ m. not_ahead_of_itself o k (in_reached f (lk p) m)) (reached_apart f (lk p) k))
 

@@ -38,12 +38,12 @@ module _ {size : ℕ} {q : Pool} {stage rank : ℕ → ℕ} (s : Shaped size q s
   p_links_ne e = ahead_ne xa (sym p_links ∙ e)
 
   head_live : stage 0 < 3
-  head_live = let h = s.ordered.head in omega arith
+  head_live = omega arith
 
   due_kept : (aw : Bool) (z : ℕ) → Guarded stage aw z → Guarded (changed stage x 1) aw z
   due_kept aw z g = elim (cases_eq z x) [
-    | inl e ↦ let w = changed_at stage x z 1 e in record { live = omega arith; waits = λ v. absurd (let v' = v in omega arith) }
-    | inr n ↦ let w = changed_elsewhere stage x z 1 n in let l = g.live in record { live = omega arith; waits = λ v. g.waits (cc) }
+    | inl e ↦ let w = changed_at stage x z 1 e in record { live = omega arith; waits = λ v. absurd (omega arith) }
+    | inr n ↦ let w = changed_elsewhere stage x z 1 n in record { live = omega arith; waits = λ v. g.waits (cc) }
   ]
 
   -- ---- x alone goes
@@ -137,7 +137,7 @@ module _ {size : ℕ} {q : Pool} {stage rank : ℕ → ℕ} (s : Shaped size q s
     fresh = s.books.in_free y (rw free (In.first refl))
 
     y_ne : y ≢ 0
-    y_ne e = let h = s.ordered.head in let w = ap stage e in let f = fresh.0 in omega arith
+    y_ne e = let w = ap stage e in let f = fresh.0 in omega arith
 
     live_ne : (z : ℕ) → stage z < 3 → z ≢ y
     live_ne z l e = let w = ap stage e in let f = fresh.0 in omega arith
@@ -261,9 +261,8 @@ module _ {size : ℕ} {q : Pool} {stage rank : ℕ → ℕ} (s : Shaped size q s
     guards₂ : (aw : Bool) (z : ℕ) → Guarded stage aw z → Guarded stage₂ aw z
     guards₂ aw z g =
         let e = changed_elsewhere stage y z 0 (live_ne z g.live) in
-        let l = g.live in
         elim (cases_eq z x) [
-          | inl i ↦ let w = changed_at stage₁ x z 1 i in record { live = omega arith; waits = λ v. absurd (let v' = v in omega arith) }
+          | inl i ↦ let w = changed_at stage₁ x z 1 i in record { live = omega arith; waits = λ v. absurd (omega arith) }
           | inr n ↦ let w = changed_elsewhere stage₁ x z 1 n in record { live = omega arith; waits = λ v. g.waits (cc) }
         ]
 

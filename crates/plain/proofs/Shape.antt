@@ -63,13 +63,11 @@ pub record Shaped (size : ℕ) (q : Pool) (stage rank : ℕ → ℕ) : Type 0 wh
 module _ {size : ℕ} {q : Pool} {stage rank : ℕ → ℕ} (s : Shaped size q stage rank) where
   pub listed_stage : {x : ℕ} → Ahead (link_of q) x 0 → stage x ≡ 0
   listed_stage a =
-      let h = s.ordered.head in
       let k = ahead_stage s.ordered (omega arith) a in
       omega arith
 
   pub listed_chain : Chain (link_of q) 0 (reached size (link_of q) 0)
   listed_chain =
-      let h = s.ordered.head in
       sized_chain (link_of q) s.ordered size 0 (omega arith) s.books.bounded
 
   pub node_there : (k : ℕ) → not (eqb (holder q.key k (reached size (link_of q) 0)) 0) ≡ true →

@@ -49,7 +49,7 @@ module _ {b : Board} {a : Area} {stage rank : ℕ → ℕ} {m : Moment} (f : Fin
     fields = o.fields;
     guarded = elim o.where' [
       | inl c ↦ guarded_ahead f.shaped (f.rests r o.inside) c
-      | inr c ↦ guarded_ahead f.shaped (let h = f.shaped.ordered.head in record { live = omega arith; waits = λ w. absurd (let v = w in omega arith) }) c
+      | inr c ↦ guarded_ahead f.shaped (record { live = omega arith; waits = λ w. absurd (omega arith) }) c
     ];
   }
 

@@ -51,7 +51,6 @@ module _ {h : History} {b : Board} {a : Area} (s : State h b a) {m : Moment} (t 
       omega arith
   short_on r j w older e (Walked.ended {m = m₁} {w = w₁} last wk) c =
       let q : m ≡ m₁ = cc in
-      let z = n.sized in
       let l = short_at s.fine t n r j (s.walks r w₁ older (cc) wk) (rw q c) in
       omega arith
 

@@ -94,7 +94,7 @@ module _ {b : Board} {stage rank : ℕ → ℕ} (f : Fine b stage rank) (a : Are
     module _ (free : q.free ≡ new ∷ tail q.free) (there : (after b h ≡ 0) ⊎ Ahead lk (after b h) 0) (listed_old : Ahead lk old 0) (key : q.key old ≡ k) where
       two : Two (link_of q₁) q₁.key old new
       two = record {
-        old = still_ahead s k (after b h) new (tail q.free) free there the_move (let w = s.ordered.head in omega arith) listed_old;
+        old = still_ahead s k (after b h) new (tail q.free) free there the_move (omega arith) listed_old;
         copy = new_listed s k (after b h) new (tail q.free) free there the_move;
         differ = old_ne s k (after b h) new (tail q.free) free there the_move listed_old;
         alike = cc (key_new s k (after b h) new (tail q.free) free there the_move, key_old s k (after b h) new (tail q.free) free there the_move old (old_ne s k (after b h) new (tail q.free) free there the_move listed_old));
@@ -176,8 +176,6 @@ module _ {b : Board} {stage rank : ℕ → ℕ} (f : Fine b stage rank) (a : Are
 
   goes_on : (aw : Bool) (x : ℕ) → Guarded stage aw x → Guarded stage aw (lk x)
   goes_on aw x g =
-      let d = s.ordered.down x g.live in
-      let l = g.live in
       record { live = omega arith; waits = λ w. g.waits (omega arith) }
 
   steps : (r : ℕ) → Passed (checks making b a (Call.step r)) → Follows b a stage (moment (Call.step r) (accepted making b a (Call.step r)))

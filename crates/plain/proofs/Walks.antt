@@ -38,7 +38,6 @@ pub record UnderWay (b : Board) (stage : ℕ → ℕ) (r : ℕ) (w : History) : 
 pub trodden_few : {b : Board} {stage rank : ℕ → ℕ} {r : ℕ} {w : History} → Fine b stage rank → (u : UnderWay b stage r w) → length u.trodden ≤ b.size
 trodden_few f u = few _ u.way.apart (λ x i.
     let l = u.way.live x i in
-    let d = l.0 in
     (omega arith, f.shaped.books.bounded x l.1.live))
 
 module _ {b : Board} {a : Area} {stage rank : ℕ → ℕ} {m : Moment} (f : Fine b stage rank) (t : Told b a m) (n : Follows b a stage m) (r : ℕ) where
@@ -85,7 +84,6 @@ module _ {b : Board} {a : Area} {stage rank : ℕ → ℕ} {m : Moment} (f : Fin
             count = λ j c.
                 let s = count_older c in
                 let l = u.count s.0 s.1 in
-                let q = s.2 in
                 omega arith;
           }
 
@@ -107,6 +105,5 @@ module _ {b : Board} {a : Area} {stage rank : ℕ → ℕ} {m : Moment} (f : Fin
   short_at j u c =
       let s = count_older c in
       let l = u.count s.0 s.1 in
-      let q = s.2 in
       let h = trodden_few f u in
       omega arith
