@@ -30,7 +30,7 @@ module _ {size : ℕ} {q q' : Pool} {stage : ℕ → ℕ} {y : ℕ} (k : Books s
   books_fill = record {
     bounded = λ x l. elim (cases_eq x y) [
       | inl e ↦ rw e fresh.1
-      | inr n ↦ k.bounded x (let e = changed_elsewhere stage y x 0 n in omega arith)
+      | inr n ↦ k.bounded x (omega (arith, changed_elsewhere stage y x 0 n))
     ];
     in_free = λ x i.
         let n : x ≢ y = λ e. apart_head free_apart (rw e at i) in
@@ -46,12 +46,12 @@ module _ {size : ℕ} {q q' : Pool} {stage : ℕ → ℕ} {y : ℕ} (k : Books s
   }
     where
       not_fresh : (x : ℕ) → stage x < 3 → x ≢ y
-      not_fresh x l e = let r = fresh.0 in let w = ap stage e in omega arith
+      not_fresh x l e = omega (arith, fresh.0, ap stage e)
 
       below : (x : ℕ) → q'.stamp x < q'.next_stamp
       below x =
           elim (cases_eq x y) [
-            | inl e ↦ let w = ap (λ (z : ℕ). q'.stamp z) e ∙ f.stamp_new in omega arith
+            | inl e ↦ omega (arith, ap (λ (z : ℕ). q'.stamp z) e ∙ f.stamp_new)
             | inr e ↦ omega arith
           ]
 
@@ -92,9 +92,9 @@ module _ {size : ℕ} {q q' : Pool} {stage : ℕ → ℕ} {x : ℕ} (k : Books s
     ];
     in_covered = λ z i. let r = k.in_covered z (rw f.covered at i) in other z (omega arith) ∙ r;
     apart_free = rw f.free k.apart_free;
-    apart_due = rw f.due (Apart.one_more (λ i. let r = k.in_due x i in omega arith) k.apart_due);
+    apart_due = rw f.due (Apart.one_more (λ i. omega (arith, k.in_due x i)) k.apart_due);
     apart_covered = rw f.covered k.apart_covered;
-    stamps_below = λ z. let e = f.stamp z in let n = f.next_stamp in omega arith;
+    stamps_below = λ z. omega (arith, f.stamp z, f.next_stamp);
     stamps_apart = λ u v nu nv lu lv e. k.stamps_apart u v nu nv (live u lu) (live v lv) (cc (f.stamp u, f.stamp v));
   }
     where
@@ -103,8 +103,8 @@ module _ {size : ℕ} {q q' : Pool} {stage : ℕ → ℕ} {x : ℕ} (k : Books s
 
       live : (z : ℕ) → changed stage x 1 z < 3 → stage z < 3
       live z l = elim (cases_eq z x) [
-        | inl e ↦ let w = ap stage e in omega arith
-        | inr n ↦ let e = changed_elsewhere stage x z 1 n in omega arith
+        | inl e ↦ omega (arith, ap stage e)
+        | inr n ↦ omega (arith, changed_elsewhere stage x z 1 n)
       ]
 
 -- ---- waits
@@ -114,7 +114,7 @@ books_begin {size} {q} {stage} k = record {
   bounded = λ x l. k.bounded x (live x l);
   in_free = λ x i. let r = k.in_free x i in let c = raised_cases 1 2 (stage x) in (omega arith, r.1);
   in_due = λ x i. elim i [ ];
-  in_covered = λ x i. let c = raised_cases 1 2 (stage x) in omega arith;
+  in_covered = λ x i. omega (arith, raised_cases 1 2 (stage x));
   apart_free = k.apart_free;
   apart_due = Apart.nothing;
   apart_covered = k.apart_due;
@@ -123,7 +123,7 @@ books_begin {size} {q} {stage} k = record {
 }
   where
     live : (x : ℕ) → raised 1 2 (stage x) < 3 → stage x < 3
-    live x l = let c = raised_cases 1 2 (stage x) in omega arith
+    live x l = omega (arith, raised_cases 1 2 (stage x))
 
 pub books_over : {size : ℕ} {q : Pool} {stage : ℕ → ℕ} → Books size q stage → Books size (freeing q) (λ x. raised 2 3 (stage x))
 books_over {size} {q} {stage} k = record {
@@ -134,9 +134,9 @@ books_over {size} {q} {stage} k = record {
         | inl j ↦ let r = k.in_covered x j in (omega arith, k.bounded x (omega arith))
         | inr j ↦ let r = k.in_free x j in (omega arith, r.1)
       ];
-  in_due = λ x i. let c = raised_cases 2 3 (stage x) in omega arith;
+  in_due = λ x i. omega (arith, raised_cases 2 3 (stage x));
   in_covered = λ x i. elim i [ ];
-  apart_free = apart_append k.apart_covered k.apart_free (λ x i j. let f = k.in_free x j in omega arith);
+  apart_free = apart_append k.apart_covered k.apart_free (λ x i j. omega (arith, k.in_free x j));
   apart_due = k.apart_due;
   apart_covered = Apart.nothing;
   stamps_below = k.stamps_below;
@@ -144,7 +144,7 @@ books_over {size} {q} {stage} k = record {
 }
   where
     live : (x : ℕ) → raised 2 3 (stage x) < 3 → stage x < 3
-    live x l = let c = raised_cases 2 3 (stage x) in omega arith
+    live x l = omega (arith, raised_cases 2 3 (stage x))
 
 -- ---- a new board
 
@@ -157,7 +157,7 @@ new_free x n = changed_elsewhere {A = ℕ} (λ z. 3) 0 x 0 n
 
 pub books_new : (m n s : ℕ) → 0 < s → Books n (new_board m n s).pool new_stages
 books_new m n s h = record {
-  bounded = λ x l. elim (cases_eq x 0) [ inl e ↦ omega arith | inr e ↦ absurd (let w = new_free x e in omega arith) ];
+  bounded = λ x l. elim (cases_eq x 0) [ inl e ↦ omega arith | inr e ↦ absurd (omega (arith, new_free x e)) ];
   in_free = λ x i. let r = in_upto 1 n i in (new_free x (omega arith), omega arith);
   in_due = λ x i. elim i [ ];
   in_covered = λ x i. elim i [ ];
@@ -165,5 +165,5 @@ books_new m n s h = record {
   apart_due = Apart.nothing;
   apart_covered = Apart.nothing;
   stamps_below = λ x. h;
-  stamps_apart = λ u v nu nv lu lv e. absurd (let w = new_free u nu in omega arith);
+  stamps_apart = λ u v nu nv lu lv e. absurd (omega (arith, new_free u nu));
 }

@@ -68,7 +68,7 @@ module _ {size : ℕ} {q : Pool} {stage rank : ℕ → ℕ} (s : Shaped size q s
   pub begin_turned : (a : Area) (aw aw' : Bool) → aw' ≡ true → Turned q (covering q) a a stage (λ x. raised 1 2 (stage x)) aw aw'
   begin_turned a aw aw' e = record {
     kept = λ x n l. record { key = refl; stamp = refl; fields = refl };
-    guards = λ x g. record { live = let l = g.live in let c = raised_cases 1 2 (stage x) in omega arith; waits = λ w. e };
+    guards = λ x g. record { live = omega (arith, g.live, raised_cases 1 2 (stage x)); waits = λ w. e };
     back = λ x z l b. inl b;
     fwd = λ x z l b. Carried.stays b;
     owed = λ c w. (owed_begin q.move aw aw' c e w, λ x b. b);

@@ -52,17 +52,15 @@ module _ {lk stage rank : ℕ → ℕ} (o : Ordered lk stage rank) where
   pub ahead_stage : {z x : ℕ} → stage x < 3 → Ahead lk z x → stage z ≤ stage x
   ahead_stage {z} {x} l (next n e) = rw e at (o.down x l)
   ahead_stage {z} {x} l (more n a) =
-      let q = ahead_stage (omega arith) a in
-      omega arith
+      omega (arith, ahead_stage (omega arith) a)
 
   pub ahead_rank : {z x : ℕ} → stage x < 3 → Ahead lk z x → rank z < rank x
   ahead_rank {z} {x} l (next n e) = rw e at (o.falls x l n)
   ahead_rank {z} {x} l (more n a) =
-      let q = ahead_rank (omega arith) a in
-      omega arith
+      omega (arith, ahead_rank (omega arith) a)
 
   pub not_ahead_of_itself : {x : ℕ} → stage x < 3 → Ahead lk x x → ⊥
-  not_ahead_of_itself l a = let q = ahead_rank l a in omega arith
+  not_ahead_of_itself l a = omega (arith, ahead_rank l a)
 
 -- y is put behind p
 pub record Spliced (lk lk' : ℕ → ℕ) (p y : ℕ) : Type 0 where
@@ -77,10 +75,10 @@ pub record Skipped (lk lk' : ℕ → ℕ) (p : ℕ) : Type 0 where
 
 module _ {lk lk' stage rank : ℕ → ℕ} (o : Ordered lk stage rank) (p y : ℕ) (s : Spliced lk lk' p y) (kp : stage p ≡ 0) (ky : stage y ≡ 3) where
   y_ne : y ≢ 0
-  y_ne e = let h = ap stage e in omega arith
+  y_ne e = omega (arith, ap stage e)
 
   live_ne : (x : ℕ) → stage x < 3 → x ≢ y
-  live_ne x l e = let h = ap stage e in omega arith
+  live_ne x l e = omega (arith, ap stage e)
 
   pub splice_fwd : {z x : ℕ} → stage x < 3 → Ahead lk z x → Ahead lk' z x
   splice_fwd {z} {x} l (next n e) = elim (cases_eq x p) [
@@ -130,7 +128,7 @@ module _ {lk lk' stage rank : ℕ → ℕ} (o : Ordered lk stage rank) (p y : �
       rank' = changed (λ x. 2 * rank x + 2) y (2 * rank p + 1)
 
       live' : (x : ℕ) → x ≢ y → stage' x < 3 → stage x < 3
-      live' x n l = let e = changed_elsewhere stage y x 0 n in omega arith
+      live' x n l = omega (arith, changed_elsewhere stage y x 0 n)
 
       p_ne : p ≢ y
       p_ne = live_ne p (omega arith)
@@ -295,29 +293,24 @@ module _ {lk lk' stage rank : ℕ → ℕ} (o : Ordered lk stage rank) (p : ℕ)
 
       live' : (u : ℕ) → stage' u < 3 → stage u < 3
       live' u l = elim (cases_eq u x) [
-        | inl q ↦ let e = ap stage q in omega arith
-        | inr q ↦ let e = changed_elsewhere stage x u 1 q in omega arith
+        | inl q ↦ omega (arith, ap stage q)
+        | inr q ↦ omega (arith, changed_elsewhere stage x u 1 q)
       ]
 
       p_ne : p ≢ x
-      p_ne e = let g = ap rank e in omega arith
+      p_ne e = omega (arith, ap rank e)
 
       after_ne : lk x ≢ x
-      after_ne e = let g = ap rank e in omega arith
+      after_ne e = omega (arith, ap rank e)
 
       falls' : (u : ℕ) → stage' u < 3 → lk' u ≢ 0 → rank (lk' u) < rank u
       falls' u l n = elim (cases_eq u p) [
         | inl q ↦
             let v : lk' u ≡ lk x = cc in
-            let f = o.falls p (omega arith) ne in
-            let r = ap rank q in
-            let t = ap rank v in
-            omega arith
+            omega (arith, o.falls p (omega arith) ne, ap rank q, ap rank v)
         | inr q ↦
             let v = s.rest u q in
-            let f = o.falls u (live' u l) (λ w. n (v ∙ w)) in
-            let t = ap rank v in
-            omega arith
+            omega (arith, o.falls u (live' u l) (λ w. n (v ∙ w)), ap rank v)
       ]
 
       down' : (u : ℕ) → stage' u < 3 → stage' (lk' u) ≤ stage' u
@@ -341,14 +334,13 @@ module _ {lk lk' stage rank : ℕ → ℕ} (o : Ordered lk stage rank) (p : ℕ)
                         let z : stage u ≢ 0 = λ w. q (o.single u p w kp t (λ y. ne (cc))) in
                         omega arith
                     | inr t ↦
-                        let b = changed_elsewhere stage x (lk u) 1 t in
-                        omega arith
+                        omega (arith, changed_elsewhere stage x (lk u) 1 t)
                   ]
             ])
       ]
 
       listed_ne : (a : ℕ) → stage' a ≡ 0 → a ≢ x
-      listed_ne a k e = let b = changed_at stage x a 1 e in omega arith
+      listed_ne a k e = omega (arith, changed_at stage x a 1 e)
 
       single' : (a b : ℕ) → stage' a ≡ 0 → stage' b ≡ 0 → lk' a ≡ lk' b → lk' a ≢ 0 → a ≡ b
       single' a b ka kb e n =
@@ -389,34 +381,30 @@ raised_cases a b k = elim (cases_eq k a) [
 module _ {lk stage rank : ℕ → ℕ} (o : Ordered lk stage rank) where
   pub begin_ordered : Ordered lk (λ x. raised 1 2 (stage x)) rank
   begin_ordered = record {
-    head = let c = raised_cases 1 2 (stage 0) in omega arith;
+    head = omega (arith, raised_cases 1 2 (stage 0));
     falls = λ x l n. o.falls x (live x l) n;
     down = λ x l.
-        let c = raised_cases 1 2 (stage x) in
-        let e = raised_cases 1 2 (stage (lk x)) in
-        omega arith;
+        omega (arith, raised_cases 1 2 (stage x), raised_cases 1 2 (stage (lk x)));
     single = λ x y kx ky e n. o.single x y (listed x kx) (listed y ky) e n;
   }
     where
       live : (x : ℕ) → raised 1 2 (stage x) < 3 → stage x < 3
-      live x l = let c = raised_cases 1 2 (stage x) in omega arith
+      live x l = omega (arith, raised_cases 1 2 (stage x))
 
       listed : (x : ℕ) → raised 1 2 (stage x) ≡ 0 → stage x ≡ 0
-      listed x l = let c = raised_cases 1 2 (stage x) in omega arith
+      listed x l = omega (arith, raised_cases 1 2 (stage x))
 
   pub over_ordered : Ordered lk (λ x. raised 2 3 (stage x)) rank
   over_ordered = record {
-    head = let c = raised_cases 2 3 (stage 0) in omega arith;
+    head = omega (arith, raised_cases 2 3 (stage 0));
     falls = λ x l n. o.falls x (live x l) n;
     down = λ x l.
-        let c = raised_cases 2 3 (stage x) in
-        let e = raised_cases 2 3 (stage (lk x)) in
-        omega arith;
+        omega (arith, raised_cases 2 3 (stage x), raised_cases 2 3 (stage (lk x)));
     single = λ x y kx ky e n. o.single x y (listed x kx) (listed y ky) e n;
   }
     where
       live : (x : ℕ) → raised 2 3 (stage x) < 3 → stage x < 3
-      live x l = let c = raised_cases 2 3 (stage x) in omega arith
+      live x l = omega (arith, raised_cases 2 3 (stage x))
 
       listed : (x : ℕ) → raised 2 3 (stage x) ≡ 0 → stage x ≡ 0
-      listed x l = let c = raised_cases 2 3 (stage x) in omega arith
+      listed x l = omega (arith, raised_cases 2 3 (stage x))

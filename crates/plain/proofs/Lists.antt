@@ -61,7 +61,7 @@ upto_in {x} i (suc k) l h = elim (cases_eq x i) [
 
 pub apart_upto : (i k : ℕ) → Apart (upto i k)
 apart_upto i zero = nothing
-apart_upto i (suc k) = one_more (λ m. let q = in_upto (suc i) k m in omega arith) (apart_upto (suc i) k)
+apart_upto i (suc k) = one_more (λ m. omega (arith, in_upto (suc i) k m)) (apart_upto (suc i) k)
 
 -- ---- how many of the numbers 1 to n are left out
 
@@ -93,17 +93,17 @@ more_in zero x xs d = grind (arith, nat_tests)
 more_in (suc n) x xs d = one_further n x (has xs) _ _ d (more_in n x xs d)
 
 pub left_out_count : (n : ℕ) {xs : List ℕ} → Apart xs → ((x : ℕ) → In x xs → (0 < x) × (x ≤ n)) → count_below (λ i. not (has xs (suc i))) n + length xs ≡ n
-left_out_count n nothing h = let all = count_all n in omega arith
-left_out_count n (one_more {x = zero} {xs = xs} d a) h = absurd (let q = h 0 (first refl) in omega arith)
+left_out_count n nothing h = omega (arith, count_all n)
+left_out_count n (one_more {x = zero} {xs = xs} d a) h = absurd (omega (arith, h 0 (first refl)))
 left_out_count n (one_more {x = suc x} {xs = xs} d a) h =
     let rest = left_out_count n a (λ y i. h y (later i)) in
     let more = more_in n x xs (has_not xs (suc x) d) in
-    let below : one (ltb x n) ≡ 1 = ap one (lt-ltb x n (let q = h (suc x) (first refl) in omega arith)) in
+    let below : one (ltb x n) ≡ 1 = ap one (lt-ltb x n (omega (arith, h (suc x) (first refl)))) in
     omega arith
 
 -- so at most n numbers from 1 to n are apart
 pub few : (n : ℕ) {xs : List ℕ} → Apart xs → ((x : ℕ) → In x xs → (0 < x) × (x ≤ n)) → length xs ≤ n
-few n a h = let e = left_out_count n a h in omega arith
+few n a h = omega (arith, left_out_count n a h)
 
 -- and a list that has them all leaves none out
 pub none_left_out : (n : ℕ) (xs : List ℕ) → ((x : ℕ) → 0 < x → x ≤ n → In x xs) → count_below (λ i. not (has xs (suc i))) n ≡ 0

@@ -26,7 +26,7 @@ module _ (m n s : ℕ) where
       ordered = record {
         head = stage_0;
         falls = λ x l d. absurd (d (no_link x));
-        down = λ x l. let e = ap new_stages (no_link x) in omega arith;
+        down = λ x l. omega (arith, ap new_stages (no_link x));
         single = λ x y kx ky e d. absurd (d (no_link x));
       };
       books = books_new m n s stamps;

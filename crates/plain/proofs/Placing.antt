@@ -34,15 +34,15 @@ module _ {size : ℕ} {q : Pool} {stage rank : ℕ → ℕ} (s : Shaped size q s
   kp = elim pa [ inl e ↦ cc | inr a ↦ listed_stage s a ]
 
   pub y_ne : y ≢ 0
-  y_ne e = let w = ap stage e in let f = fresh.0 in omega arith
+  y_ne e = omega (arith, ap stage e, fresh.0)
 
   live_ne : (x : ℕ) → stage x < 3 → x ≢ y
-  live_ne x l e = let w = ap stage e in let f = fresh.0 in omega arith
+  live_ne x l e = omega (arith, ap stage e, fresh.0)
 
   pub spliced : Spliced (link_of q) (link_of q₁) p y
   spliced = record {
     at_p = linked_there p (head_or_0 q.free) (filled k (link_of q p) q) ∙ head;
-    at_y = linked_elsewhere p (head_or_0 q.free) (filled k (link_of q p) q) y (λ e. live_ne p (let w = kp in omega arith) (sym e)) ∙ filled_there k (link_of q p) q y head y_ne;
+    at_y = linked_elsewhere p (head_or_0 q.free) (filled k (link_of q p) q) y (λ e. live_ne p (omega (arith, kp)) (sym e)) ∙ filled_there k (link_of q p) q y head y_ne;
     rest = λ x n d. linked_elsewhere p (head_or_0 q.free) (filled k (link_of q p) q) x n ∙ filled_elsewhere k (link_of q p) q y head x d;
   }
 
@@ -91,7 +91,7 @@ module _ {size : ℕ} {q : Pool} {stage rank : ℕ → ℕ} (s : Shaped size q s
   listed_before a = splice_back s.ordered p y spliced kp fresh.0 listed_live a
 
   pub old_ne : {x : ℕ} → Ahead (link_of q) x 0 → x ≢ y
-  old_ne a = live_ne _ (let w = listed_stage s a in omega arith)
+  old_ne a = live_ne _ (omega (arith, listed_stage s a))
 
   KeysApart : Type 0
   KeysApart = (x z : ℕ) → Ahead (link_of q₁) x 0 → Ahead (link_of q₁) z 0 → x ≢ old_of m → z ≢ old_of m → q₁.key x ≡ q₁.key z → x ≡ z

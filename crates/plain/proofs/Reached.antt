@@ -116,7 +116,7 @@ module _ (lk : ℕ → ℕ) where
     sized_chain size p l b =
         let short = few size (reached_apart (suc size) p l) within in
         elim (full_or_chain (suc size) p) [
-          | inl h ↦ absurd (let k = h in omega arith)
+          | inl h ↦ absurd (omega (arith, h))
           | inr c ↦ rw (reached_again size c short) c
         ]
       where

@@ -78,10 +78,7 @@ module _ {size : ℕ} {q : Pool} {stage rank : ℕ → ℕ} (s : Shaped size q s
 
     pub not_listed : {z : ℕ} → Ahead (link_of q₁) z 0 → z ≢ x
     not_listed a e =
-        let k = ahead_stage ordered₁ (let w = ordered₁.head in omega arith) a in
-        let w = ordered₁.head in
-        let v = changed_at stage x _ 1 e in
-        omega arith
+        omega (arith, ahead_stage ordered₁ (let w = ordered₁.head in omega arith) a, ordered₁.head, changed_at stage x _ 1 e)
 
     still_somewhere : (z : ℕ) → Somewhere q z → Somewhere q₁ z
     still_somewhere z (Somewhere.on_list c) = elim (cases_eq z x) [
@@ -137,22 +134,20 @@ module _ {size : ℕ} {q : Pool} {stage rank : ℕ → ℕ} (s : Shaped size q s
     fresh = s.books.in_free y (rw free (In.first refl))
 
     y_ne : y ≢ 0
-    y_ne e = let w = ap stage e in let f = fresh.0 in omega arith
+    y_ne e = omega (arith, ap stage e, fresh.0)
 
     live_ne : (z : ℕ) → stage z < 3 → z ≢ y
-    live_ne z l e = let w = ap stage e in let f = fresh.0 in omega arith
+    live_ne z l e = omega (arith, ap stage e, fresh.0)
 
     p_ne : p ≢ y
-    p_ne = live_ne p (let w = kp in omega arith)
+    p_ne = live_ne p (omega (arith, kp))
 
     x_ne : x ≢ y
-    x_ne = live_ne x (let w = kx in omega arith)
+    x_ne = live_ne x (omega (arith, kx))
 
     x_ne_p : x ≢ p
     x_ne_p e =
-        let f = s.ordered.falls p (let w = kp in omega arith) p_links_ne in
-        let w = ap rank (p_links ∙ e) in
-        omega arith
+        omega (arith, s.ordered.falls p (let w = kp in omega arith) p_links_ne, ap rank (p_links ∙ e))
 
     -- the links with y put behind p, before x is skipped
     lk : ℕ → ℕ
@@ -291,7 +286,7 @@ module _ {size : ℕ} {q : Pool} {stage rank : ℕ → ℕ} (s : Shaped size q s
         no_old c i = ahead_ne c (cc)
 
         old_ne : {z : ℕ} → Ahead (link_of q) z 0 → z ≢ y
-        old_ne c = live_ne _ (let w = listed_stage s c in omega arith)
+        old_ne c = live_ne _ (omega (arith, listed_stage s c))
 
         alone : (z : ℕ) → Ahead (link_of q₂) z 0 → Ahead (link_of q) z 0 → q₂.key z ≢ k
         alone z az cz i = not_x az (s.keys_apart z x cz xa (no_old cz) (no_old xa) (cc (key_old z (old_ne cz))))

@@ -63,8 +63,7 @@ pub record Shaped (size : ℕ) (q : Pool) (stage rank : ℕ → ℕ) : Type 0 wh
 module _ {size : ℕ} {q : Pool} {stage rank : ℕ → ℕ} (s : Shaped size q stage rank) where
   pub listed_stage : {x : ℕ} → Ahead (link_of q) x 0 → stage x ≡ 0
   listed_stage a =
-      let k = ahead_stage s.ordered (omega arith) a in
-      omega arith
+      omega (arith, ahead_stage s.ordered (omega arith) a)
 
   pub listed_chain : Chain (link_of q) 0 (reached size (link_of q) 0)
   listed_chain =
@@ -81,8 +80,7 @@ module _ {size : ℕ} {q : Pool} {stage rank : ℕ → ℕ} (s : Shaped size q s
   pub there : (k x : ℕ) → Ahead (link_of q) x 0 → q.key x ≡ k → not (eqb (holder q.key k (reached size (link_of q) 0)) 0) ≡ true
   there k x a e =
       let l = reached size (link_of q) 0 in
-      let n = holder_there q.key k l x (λ y i. ahead_ne (chain_ahead listed_chain i)) (ahead_chain listed_chain a) e in
-      grind (arith, nat_tests)
+      grind (arith, nat_tests, holder_there q.key k l x (λ y i. ahead_ne (chain_ahead listed_chain i)) (ahead_chain listed_chain a) e)
 
   pub not_there : (k : ℕ) → not (eqb (holder q.key k (reached size (link_of q) 0)) 0) ≡ false → (x : ℕ) → Ahead (link_of q) x 0 → q.key x ≢ k
   not_there k f x a e = cc (there k x a e)

@@ -46,13 +46,10 @@ module _ {h : History} {b : Board} {a : Area} (s : State h b a) {m : Moment} (t 
   pub short_on : WalksAreShort m.board.size (m ∷ h)
   short_on r j w older e (Walked.under_way wk) c =
       let u = walks_on r w older e wk in
-      let l = u.count j c in
-      let k = trodden_few n.fine u in
-      omega arith
+      omega (arith, u.count j c, trodden_few n.fine u)
   short_on r j w older e (Walked.ended {m = m₁} {w = w₁} last wk) c =
       let q : m ≡ m₁ = cc in
-      let l = short_at s.fine t n r j (s.walks r w₁ older (cc) wk) (rw q c) in
-      omega arith
+      omega (arith, short_at s.fine t n r j (s.walks r w₁ older (cc) wk) (rw q c))
 
   pub complete_on : WalksAreComplete (m ∷ h)
   complete_on r k m₁ w older e wk re ev =

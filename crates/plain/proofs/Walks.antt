@@ -83,8 +83,7 @@ module _ {b : Board} {a : Area} {stage rank : ℕ → ℕ} {m : Moment} (f : Fin
             way = rw d.1 (way_goes n.fine r m w (b.slots r).place x.node u.trodden e o.0.ne ((n.turned r u.inside nl).guards (b.slots r).place (f.rests r u.inside)) (record { sighting = x; on = on; key = k }) stayed);
             count = λ j c.
                 let s = count_older c in
-                let l = u.count s.0 s.1 in
-                omega arith;
+                omega (arith, u.count s.0 s.1);
           }
 
   -- ---- the last step of a walk
@@ -104,6 +103,4 @@ module _ {b : Board} {a : Area} {stage rank : ℕ → ℕ} {m : Moment} (f : Fin
   pub short_at : (j : ℕ) {w : History} → UnderWay b stage r w → Count (Steps r) (m ∷ w) j → j ≤ b.size + 1
   short_at j u c =
       let s = count_older c in
-      let l = u.count s.0 s.1 in
-      let h = trodden_few f u in
-      omega arith
+      omega (arith, u.count s.0 s.1, trodden_few f u)
