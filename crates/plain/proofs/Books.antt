@@ -92,7 +92,7 @@ module _ {size : ℕ} {q q' : Pool} {stage : ℕ → ℕ} {x : ℕ} (k : Books s
     ];
     in_covered = λ z i. let r = k.in_covered z (rw f.covered at i) in other z (omega arith) ∙ r;
     apart_free = rw f.free k.apart_free;
-    apart_due = rw f.due (Apart.one_more (λ i. omega (arith, k.in_due x i)) k.apart_due);
+    apart_due = rw f.due (Apart.one_more (λ (i : In x q.due). omega (arith, k.in_due x i)) k.apart_due);
     apart_covered = rw f.covered k.apart_covered;
     stamps_below = λ z. omega (arith, f.stamp z, f.next_stamp);
     stamps_apart = λ u v nu nv lu lv e. k.stamps_apart u v nu nv (live u lu) (live v lv) (cc (f.stamp u, f.stamp v));
@@ -109,42 +109,34 @@ module _ {size : ℕ} {q q' : Pool} {stage : ℕ → ℕ} {x : ℕ} (k : Books s
 
 -- ---- waits
 
-pub books_begin : {size : ℕ} {q : Pool} {stage : ℕ → ℕ} → Books size q stage → Books size (covering q) (λ x. raised 1 2 (stage x))
-books_begin {size} {q} {stage} k = record {
-  bounded = λ x l. k.bounded x (live x l);
-  in_free = λ x i. let r = k.in_free x i in let c = raised_cases 1 2 (stage x) in (omega arith, r.1);
+pub books_begin : {size : ℕ} {q : Pool} {stage : ℕ → ℕ} → Books size q stage → Books size (covering q) (λ x. raised 1 (stage x))
+books_begin {stage = stage} k = record {
+  bounded = λ x l. k.bounded x (omega (arith, raised_cases 1 (stage x)));
+  in_free = λ x i. let r = k.in_free x i in (omega (arith, raised_cases 1 (stage x)), r.1);
   in_due = λ x i. elim i [ ];
-  in_covered = λ x i. omega (arith, raised_cases 1 2 (stage x));
+  in_covered = λ x i. omega (arith, raised_cases 1 (stage x));
   apart_free = k.apart_free;
   apart_due = Apart.nothing;
   apart_covered = k.apart_due;
   stamps_below = k.stamps_below;
-  stamps_apart = λ u v nu nv lu lv e. k.stamps_apart u v nu nv (live u lu) (live v lv) e;
+  stamps_apart = λ u v nu nv lu lv e. k.stamps_apart u v nu nv (omega (arith, raised_cases 1 (stage u))) (omega (arith, raised_cases 1 (stage v))) e;
 }
-  where
-    live : (x : ℕ) → raised 1 2 (stage x) < 3 → stage x < 3
-    live x l = omega (arith, raised_cases 1 2 (stage x))
 
-pub books_over : {size : ℕ} {q : Pool} {stage : ℕ → ℕ} → Books size q stage → Books size (freeing q) (λ x. raised 2 3 (stage x))
-books_over {size} {q} {stage} k = record {
-  bounded = λ x l. k.bounded x (live x l);
-  in_free = λ x i.
-      let c = raised_cases 2 3 (stage x) in
-      elim (in_append q.covered i) [
-        | inl j ↦ let r = k.in_covered x j in (omega arith, k.bounded x (omega arith))
-        | inr j ↦ let r = k.in_free x j in (omega arith, r.1)
-      ];
-  in_due = λ x i. omega (arith, raised_cases 2 3 (stage x));
+pub books_over : {size : ℕ} {q : Pool} {stage : ℕ → ℕ} → Books size q stage → Books size (freeing q) (λ x. raised 2 (stage x))
+books_over {q = q} {stage = stage} k = record {
+  bounded = λ x l. k.bounded x (omega (arith, raised_cases 2 (stage x)));
+  in_free = λ x i. elim (in_append q.covered i) [
+    | inl j ↦ (omega (arith, k.in_covered x j, raised_cases 2 (stage x)), k.bounded x (omega (arith, k.in_covered x j)))
+    | inr j ↦ let r = k.in_free x j in (omega (arith, raised_cases 2 (stage x)), r.1)
+  ];
+  in_due = λ x i. omega (arith, raised_cases 2 (stage x));
   in_covered = λ x i. elim i [ ];
   apart_free = apart_append k.apart_covered k.apart_free (λ x i j. omega (arith, k.in_free x j));
   apart_due = k.apart_due;
   apart_covered = Apart.nothing;
   stamps_below = k.stamps_below;
-  stamps_apart = λ u v nu nv lu lv e. k.stamps_apart u v nu nv (live u lu) (live v lv) e;
+  stamps_apart = λ u v nu nv lu lv e. k.stamps_apart u v nu nv (omega (arith, raised_cases 2 (stage u))) (omega (arith, raised_cases 2 (stage v))) e;
 }
-  where
-    live : (x : ℕ) → raised 2 3 (stage x) < 3 → stage x < 3
-    live x l = omega (arith, raised_cases 2 3 (stage x))
 
 -- ---- a new board
 

@@ -140,7 +140,7 @@ module _ {b : Board} {stage rank : ℕ → ℕ} (f : Fine b stage rank) (a : Are
 
   wait_begins : b.who.waits ≡ false → Follows b a stage (record { call = Call.tend; answer = Answer.begun; board = with_who (on_begin b.who).next (with_pool (covering b.pool) b); area = a })
   wait_begins e = rw begun_now (record {
-    stage' = λ x. raised 1 2 (stage x);
+    stage' = λ x. raised 1 (stage x);
     rank' = rank;
     fine = record {
       shaped = begin_shaped f.shaped (f.idle e);
@@ -159,7 +159,7 @@ module _ {b : Board} {stage rank : ℕ → ℕ} (f : Fine b stage rank) (a : Are
 
   wait_over : (w : Answer) → b.who.waits ≡ true → anybody b.who.awaited ≡ false → Follows b a stage (record { call = Call.tend; answer = w; board = with_who (on_poll b.who).next (with_pool (freeing b.pool) b); area = a })
   wait_over w e g = rw closed_now (record {
-    stage' = λ x. raised 2 3 (stage x);
+    stage' = λ x. raised 2 (stage x);
     rank' = rank;
     fine = record {
       shaped = over_shaped f.shaped;

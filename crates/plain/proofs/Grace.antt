@@ -3,7 +3,7 @@
 use Rattle.std.proofs.Common.{◌≡◌, ℕ, Bool, true, false, ◌≢◌, [], refl, ◌∙◌, inl, arith}
 use Rattle.plain.specs.Pools.{Pool, Move, Need, covering, freeing, at_begin, at_over, old_of}
 use Rattle.plain.specs.Boards.{Area}
-use Rattle.plain.proofs.Links.{raised, raised_cases, begin_ordered, over_ordered}
+use Rattle.plain.proofs.Links.{raised, raised_cases, raised_ordered}
 use Rattle.plain.proofs.Lists.{in_left, in_right}
 use Rattle.plain.proofs.Shape.{Shaped, Somewhere, Moved, Carried, Turned, Owed}
 use Rattle.plain.proofs.Books.{books_begin, books_over}
@@ -46,18 +46,18 @@ module _ {size : ℕ} {q : Pool} {stage rank : ℕ → ℕ} (s : Shaped size q s
   over_somewhere x (Somewhere.in_due i) = Somewhere.in_due i
   over_somewhere x (Somewhere.in_covered i) = Somewhere.in_free (in_left q.free i)
 
-  pub begin_shaped : q.covered ≡ [] → Shaped size (covering q) (λ x. raised 1 2 (stage x)) rank
+  pub begin_shaped : q.covered ≡ [] → Shaped size (covering q) (λ x. raised 1 (stage x)) rank
   begin_shaped e = record {
-    ordered = begin_ordered s.ordered;
+    ordered = raised_ordered 1 (omega arith) (omega arith) s.ordered;
     books = books_begin s.books;
     keys_apart = λ x y ax ay nx ny k. s.keys_apart x y ax ay (λ w. nx (cc (old_at_begin q.move))) (λ w. ny (cc (old_at_begin q.move))) k;
     moved = moved_begin q q.move s.moved;
     somewhere = λ x n l. begun_somewhere e x (s.somewhere x n l);
   }
 
-  pub over_shaped : Shaped size (freeing q) (λ x. raised 2 3 (stage x)) rank
+  pub over_shaped : Shaped size (freeing q) (λ x. raised 2 (stage x)) rank
   over_shaped = record {
-    ordered = over_ordered s.ordered;
+    ordered = raised_ordered 2 (omega arith) (omega arith) s.ordered;
     books = books_over s.books;
     keys_apart = λ x y ax ay nx ny e. s.keys_apart x y ax ay (λ w. nx (cc (old_at_over q.move))) (λ w. ny (cc (old_at_over q.move))) e;
     moved = moved_over q q.move s.moved;
@@ -65,23 +65,23 @@ module _ {size : ℕ} {q : Pool} {stage rank : ℕ → ℕ} (s : Shaped size q s
   }
 
   -- a wait begins, and the reader is inside
-  pub begin_turned : (a : Area) (aw aw' : Bool) → aw' ≡ true → Turned q (covering q) a a stage (λ x. raised 1 2 (stage x)) aw aw'
+  pub begin_turned : (a : Area) (aw aw' : Bool) → aw' ≡ true → Turned q (covering q) a a stage (λ x. raised 1 (stage x)) aw aw'
   begin_turned a aw aw' e = record {
     kept = λ x n l. record { key = refl; stamp = refl; fields = refl };
-    guards = λ x g. record { live = omega (arith, g.live, raised_cases 1 2 (stage x)); waits = λ w. e };
+    guards = λ x g. record { live = omega (arith, g.live, raised_cases 1 (stage x)); waits = λ w. e };
     back = λ x z l b. inl b;
     fwd = λ x z l b. Carried.stays b;
     owed = λ c w. (owed_begin q.move aw aw' c e w, λ x b. b);
   }
 
   -- a wait is found over, and the reader is not awaited
-  pub over_turned : (a : Area) (aw aw' : Bool) → aw ≡ false → Turned q (freeing q) a a stage (λ x. raised 2 3 (stage x)) aw aw'
+  pub over_turned : (a : Area) (aw aw' : Bool) → aw ≡ false → Turned q (freeing q) a a stage (λ x. raised 2 (stage x)) aw aw'
   over_turned a aw aw' e = record {
     kept = λ x n l. record { key = refl; stamp = refl; fields = refl };
     guards = λ x g.
         let n : stage x ≢ 2 = λ w. cc (g.waits w) in
         let l = g.live in
-        let c = raised_cases 2 3 (stage x) in
+        let c = raised_cases 2 (stage x) in
         record { live = omega arith; waits = λ w. absurd (omega arith) };
     back = λ x z l b. inl b;
     fwd = λ x z l b. Carried.stays b;

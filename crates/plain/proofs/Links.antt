@@ -1,6 +1,6 @@
 -- Which nodes are ahead of a place, by links, where place 0 is before the front; stages and ranks that fall along links.
 -- What splicing a node in, skipping one, and the start and the end of a wait do to them. Assumes nothing.
-use Rattle.std.proofs.Common.{◌≡◌, ℕ, ◌+◌, ◌*◌, ◌<◌, ◌≤◌, cond, eqb, ◌≢◌, ◌⊎◌, sym, refl, ap, ◌∙◌, subst, inl, inr, arith}
+use Rattle.std.proofs.Common.{◌≡◌, ℕ, suc, ◌+◌, ◌*◌, ◌<◌, ◌≤◌, cond, eqb, ◌≢◌, ◌⊎◌, sym, refl, ap, ◌∙◌, subst, inl, inr, arith}
 use Rattle.std.proofs.lemmas.Bool.Decides.{nat_tests}
 use Rattle.std.proofs.lemmas.Bool.{cases_eq}
 use Rattle.plain.specs.Changed.{changed}
@@ -367,44 +367,24 @@ module _ {lk lk' stage rank : ℕ → ℕ} (o : Ordered lk stage rank) (p : ℕ)
             ]
           ]
 
--- ---- a wait begins, or is found over: one stage becomes another
+-- ---- a wait begins, or is found over: stage a becomes the next one
 
-abbrev pub raised : ℕ → ℕ → ℕ → ℕ
-raised a b k = cond (eqb k a) b k
+abbrev pub raised : ℕ → ℕ → ℕ
+raised a k = cond (eqb k a) (suc a) k
 
-pub raised_cases : (a b k : ℕ) → ((k ≡ a) × (raised a b k ≡ b)) ⊎ ((k ≢ a) × (raised a b k ≡ k))
-raised_cases a b k = elim (cases_eq k a) [
-  | inl q ↦ inl (q, grind (arith, nat_tests))
-  | inr q ↦ inr (q, grind (arith, nat_tests))
-]
+pub raised_cases : (a k : ℕ) → ((k ≡ a) × (raised a k ≡ suc a)) ⊎ ((k ≢ a) × (raised a k ≡ k))
+raised_cases a k = grind (arith, nat_tests)
 
-module _ {lk stage rank : ℕ → ℕ} (o : Ordered lk stage rank) where
-  pub begin_ordered : Ordered lk (λ x. raised 1 2 (stage x)) rank
-  begin_ordered = record {
-    head = omega (arith, raised_cases 1 2 (stage 0));
-    falls = λ x l n. o.falls x (live x l) n;
-    down = λ x l.
-        omega (arith, raised_cases 1 2 (stage x), raised_cases 1 2 (stage (lk x)));
-    single = λ x y kx ky e n. o.single x y (listed x kx) (listed y ky) e n;
-  }
-    where
-      live : (x : ℕ) → raised 1 2 (stage x) < 3 → stage x < 3
-      live x l = omega (arith, raised_cases 1 2 (stage x))
+pub raised_ordered : {lk stage rank : ℕ → ℕ} (a : ℕ) → 0 < a → a < 3 → Ordered lk stage rank → Ordered lk (λ x. raised a (stage x)) rank
+raised_ordered {lk} {stage} a pos small o = record {
+  head = omega (arith, raised_cases a (stage 0));
+  falls = λ x l n. o.falls x (live x l) n;
+  down = λ x l. omega (arith, raised_cases a (stage x), raised_cases a (stage (lk x)), o.down x (live x l));
+  single = λ x y kx ky e n. o.single x y (listed x kx) (listed y ky) e n;
+}
+  where
+    live : (x : ℕ) → raised a (stage x) < 3 → stage x < 3
+    live x l = omega (arith, raised_cases a (stage x))
 
-      listed : (x : ℕ) → raised 1 2 (stage x) ≡ 0 → stage x ≡ 0
-      listed x l = omega (arith, raised_cases 1 2 (stage x))
-
-  pub over_ordered : Ordered lk (λ x. raised 2 3 (stage x)) rank
-  over_ordered = record {
-    head = omega (arith, raised_cases 2 3 (stage 0));
-    falls = λ x l n. o.falls x (live x l) n;
-    down = λ x l.
-        omega (arith, raised_cases 2 3 (stage x), raised_cases 2 3 (stage (lk x)));
-    single = λ x y kx ky e n. o.single x y (listed x kx) (listed y ky) e n;
-  }
-    where
-      live : (x : ℕ) → raised 2 3 (stage x) < 3 → stage x < 3
-      live x l = omega (arith, raised_cases 2 3 (stage x))
-
-      listed : (x : ℕ) → raised 2 3 (stage x) ≡ 0 → stage x ≡ 0
-      listed x l = omega (arith, raised_cases 2 3 (stage x))
+    listed : (x : ℕ) → raised a (stage x) ≡ 0 → stage x ≡ 0
+    listed x l = omega (arith, raised_cases a (stage x))

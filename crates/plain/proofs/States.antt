@@ -1,12 +1,12 @@
 -- What holds along every run: the board is fine, what was sighted stands, and the walks are under way as they should.
 -- So the sightings agree and the walks are short, complete and honest, of every run. Assumes nothing.
-use Rattle.std.proofs.Common.{◌≡◌, ℕ, [], ◌∷◌, ◌++◌, sym, subst, arith}
+use Rattle.std.proofs.Common.{◌≡◌, ℕ, [], ◌∷◌, ◌++◌, subst, arith}
 use Rattle.record.specs.Making.{Making}
 use Rattle.plain.specs.Boards.{Board, Area}
 use Rattle.plain.specs.Plain.{result}
 use Rattle.plain.specs.History.{Moment, History, Run}
-use Rattle.plain.specs.Sightings.{Leaves, Sighting, Sighted, SightingsAgree}
-use Rattle.plain.specs.Walks.{Starts, ReachesEnd, Walking, Walked, WalksAreShort, WalksAreComplete, WalksAreHonest}
+use Rattle.plain.specs.Sightings.{Sighting, Sighted, SightingsAgree}
+use Rattle.plain.specs.Walks.{Walking, Walked, WalksAreShort, WalksAreComplete, WalksAreHonest}
 use Rattle.plain.proofs.Follows.{Fine, Follows}
 use Rattle.plain.proofs.Uplink.{follows}
 use Rattle.plain.proofs.Told.{Told, told}
