@@ -134,96 +134,20 @@ module _ {lk lk' stage rank : ℕ → ℕ} (o : Ordered lk stage rank) (p y : �
       p_ne = live_ne p (omega arith)
 
       falls' : (x : ℕ) → stage' x < 3 → lk' x ≢ 0 → rank' (lk' x) < rank' x
-      falls' x l n = elim (cases_eq x y) [
-        | inl q ↦
-            let v : lk' x ≡ lk p = cc in
-            let n' : lk p ≢ 0 = λ w. n (v ∙ w) in
-            let a = changed_at (λ z. 2 * rank z + 2) y x (2 * rank p + 1) q in
-            let b = changed_elsewhere (λ z. 2 * rank z + 2) y (lk p) (2 * rank p + 1) (live_ne (lk p) (omega arith)) in
-            rw v (omega arith)
-        | inr q ↦
-            let a = changed_elsewhere (λ z. 2 * rank z + 2) y x (2 * rank p + 1) q in
-            elim (cases_eq x p) [
-              | inl e ↦
-                  let v : lk' x ≡ y = cc in
-                  let b = changed_at (λ z. 2 * rank z + 2) y y (2 * rank p + 1) refl in
-                  let r : rank x ≡ rank p = ap rank e in
-                  rw v (omega arith)
-              | inr e ↦
-                  let v : lk' x ≡ lk x = s.rest x e q in
-                  let n' : lk x ≢ 0 = λ w. n (v ∙ w) in
-                  let l' = live' x q l in
-                  let b = changed_elsewhere (λ z. 2 * rank z + 2) y (lk x) (2 * rank p + 1) (live_ne (lk x) (omega arith)) in
-                  rw v (omega arith)
-            ]
-      ]
+      falls' x l n = grind (arith, nat_tests, cases_eq x y, cases_eq x p, s.rest, live_ne)
 
       down' : (x : ℕ) → stage' x < 3 → stage' (lk' x) ≤ stage' x
-      down' x l = elim (cases_eq x y) [
-        | inl q ↦
-            let v : lk' x ≡ lk p = cc in
-            let b = changed_elsewhere stage y (lk p) 0 (live_ne (lk p) (omega arith)) in
-            rw v (omega arith)
-        | inr q ↦
-            let a = changed_elsewhere stage y x 0 q in
-            elim (cases_eq x p) [
-              | inl e ↦
-                  let v : lk' x ≡ y = cc in
-                  let b = changed_at stage y y 0 refl in
-                  rw v (omega arith)
-              | inr e ↦
-                  let v : lk' x ≡ lk x = s.rest x e q in
-                  let b = changed_elsewhere stage y (lk x) 0 (live_ne (lk x) (omega arith)) in
-                  rw v (omega arith)
-            ]
-      ]
+      down' x l = grind (arith, nat_tests, cases_eq x y, cases_eq x p, s.rest, live_ne)
 
       -- p alone links to y, and y alone to what p linked to
       to_y : (b : ℕ) → stage' b ≡ 0 → lk' b ≡ y → b ≡ p
-      to_y b kb e = elim (cases_eq b p) [
-        | inl q ↦ q
-        | inr q ↦ elim (cases_eq b y) [
-          | inl w ↦
-              let v : lk p ≡ y = cc in
-              absurd (live_ne (lk p) (omega arith) v)
-          | inr w ↦
-              let l : stage b < 3 = live' b w (omega arith) in
-              absurd (live_ne (lk b) (omega arith) (cc (s.rest b q w)))
-        ]
-      ]
+      to_y b kb e = grind (arith, nat_tests, cases_eq b y, cases_eq b p, s.rest, live_ne)
 
       to_after : (b : ℕ) → b ≢ y → stage' b ≡ 0 → lk' b ≡ lk p → lk' b ≢ 0 → ⊥
-      to_after b w kb e n = elim (cases_eq b p) [
-        | inl q ↦
-            live_ne (lk p) (omega arith) (cc)
-        | inr q ↦
-            let v : lk' b ≡ lk b = s.rest b q w in
-            let kb' = changed_elsewhere stage y b 0 w in
-            q (o.single b p (omega arith) kp (cc) (λ z. n (v ∙ z)))
-      ]
+      to_after b w kb e n = grind (arith, nat_tests, cases_eq b p, s.rest, live_ne)
 
       single' : (a b : ℕ) → stage' a ≡ 0 → stage' b ≡ 0 → lk' a ≡ lk' b → lk' a ≢ 0 → a ≡ b
-      single' a b ka kb e n = elim (cases_eq a y) [
-        | inl q ↦ elim (cases_eq b y) [
-          | inl w ↦ cc
-          | inr w ↦ absurd (to_after b w kb (cc) (λ z. n (e ∙ z)))
-        ]
-        | inr q ↦ elim (cases_eq b y) [
-          | inl w ↦ absurd (to_after a q ka (cc) n)
-          | inr w ↦ elim (cases_eq a p) [
-            | inl u ↦ cc (to_y b kb (sym e ∙ ap lk' u ∙ s.at_p))
-            | inr u ↦ elim (cases_eq b p) [
-              | inl t ↦ to_y a ka (cc) ∙ sym t
-              | inr t ↦
-                  let ka' = changed_elsewhere stage y a 0 q in
-                  let kb' = changed_elsewhere stage y b 0 w in
-                  let va = s.rest a u q in
-                  let vb = s.rest b t w in
-                  o.single a b (omega arith) (omega arith) (cc) (λ z. n (cc))
-            ]
-          ]
-        ]
-      ]
+      single' a b ka kb e n = grind (arith, nat_tests, cases_eq a y, cases_eq b y, cases_eq a p, cases_eq b p, to_y, to_after, s.rest)
 
 module _ {lk lk' stage rank : ℕ → ℕ} (o : Ordered lk stage rank) (p : ℕ) (s : Skipped lk lk' p) (kp : stage p ≡ 0) (ne : lk p ≢ 0) where
   pub skip_back : {z u : ℕ} → Ahead lk' z u → Ahead lk z u
@@ -292,10 +216,7 @@ module _ {lk lk' stage rank : ℕ → ℕ} (o : Ordered lk stage rank) (p : ℕ)
       kx = omega arith
 
       live' : (u : ℕ) → stage' u < 3 → stage u < 3
-      live' u l = elim (cases_eq u x) [
-        | inl q ↦ omega (arith, ap stage q)
-        | inr q ↦ omega (arith, changed_elsewhere stage x u 1 q)
-      ]
+      live' u l = grind (arith, nat_tests)
 
       p_ne : p ≢ x
       p_ne e = omega (arith, ap rank e)
@@ -304,68 +225,16 @@ module _ {lk lk' stage rank : ℕ → ℕ} (o : Ordered lk stage rank) (p : ℕ)
       after_ne e = omega (arith, ap rank e)
 
       falls' : (u : ℕ) → stage' u < 3 → lk' u ≢ 0 → rank (lk' u) < rank u
-      falls' u l n = elim (cases_eq u p) [
-        | inl q ↦
-            let v : lk' u ≡ lk x = cc in
-            omega (arith, o.falls p (omega arith) ne, ap rank q, ap rank v)
-        | inr q ↦
-            let v = s.rest u q in
-            omega (arith, o.falls u (live' u l) (λ w. n (v ∙ w)), ap rank v)
-      ]
+      falls' u l n = grind (arith, nat_tests, cases_eq u p, s.rest)
 
       down' : (u : ℕ) → stage' u < 3 → stage' (lk' u) ≤ stage' u
-      down' u l = elim (cases_eq u p) [
-        | inl q ↦
-            let v : lk' u ≡ lk x = cc in
-            let b = changed_elsewhere stage x (lk x) 1 after_ne in
-            rw v (omega arith)
-        | inr q ↦
-            let v = s.rest u q in
-            rw v (elim (cases_eq u x) [
-              | inl e ↦
-                  let t : lk u ≡ lk x = ap lk e in
-                  let b = changed_elsewhere stage x (lk x) 1 after_ne in
-                  rw t (omega arith)
-              | inr e ↦
-                  let a = changed_elsewhere stage x u 1 e in
-                  elim (cases_eq (lk u) x) [
-                    | inl t ↦
-                        let b = changed_at stage x (lk u) 1 t in
-                        let z : stage u ≢ 0 = λ w. q (o.single u p w kp t (λ y. ne (cc))) in
-                        omega arith
-                    | inr t ↦
-                        omega (arith, changed_elsewhere stage x (lk u) 1 t)
-                  ]
-            ])
-      ]
+      down' u l = grind (arith, nat_tests, cases_eq u p, cases_eq u x, cases_eq (lk u) x, s.rest, after_ne)
 
       listed_ne : (a : ℕ) → stage' a ≡ 0 → a ≢ x
       listed_ne a k e = omega (arith, changed_at stage x a 1 e)
 
       single' : (a b : ℕ) → stage' a ≡ 0 → stage' b ≡ 0 → lk' a ≡ lk' b → lk' a ≢ 0 → a ≡ b
-      single' a b ka kb e n =
-          let a_ne = listed_ne a ka in
-          let b_ne = listed_ne b kb in
-          let ka' = changed_elsewhere stage x a 1 a_ne in
-          let kb' = changed_elsewhere stage x b 1 b_ne in
-          elim (cases_eq a p) [
-            | inl q ↦ elim (cases_eq b p) [
-              | inl w ↦ cc
-              | inr w ↦
-                  let v : lk' a ≡ lk x = cc in
-                  let u : lk b ≡ lk x = cc (s.rest b w) in
-                  absurd (b_ne (o.single b x (omega arith) kx u (λ z. n (cc))))
-            ]
-            | inr q ↦ elim (cases_eq b p) [
-              | inl w ↦
-                  let v : lk a ≡ lk x = cc (s.rest a q) in
-                  absurd (a_ne (o.single a x (omega arith) kx v (λ z. n (s.rest a q ∙ z))))
-              | inr w ↦
-                  let va = s.rest a q in
-                  let vb = s.rest b w in
-                  o.single a b (omega arith) (omega arith) (cc) (λ z. n (cc))
-            ]
-          ]
+      single' a b ka kb e n = grind (arith, nat_tests, cases_eq a p, cases_eq b p, s.rest)
 
 -- ---- a wait begins, or is found over: stage a becomes the next one
 
