@@ -1,7 +1,6 @@
 -- Which nodes are ahead of a place, by links, where place 0 is before the front; stages and ranks that fall along links.
 -- What splicing a node in, skipping one, and the start and the end of a wait do to them. Assumes nothing.
-use Rattle.std.proofs.Common.{◌≡◌, ℕ, suc, ◌+◌, ◌*◌, ◌<◌, ◌≤◌, cond, eqb, ◌≢◌, ◌⊎◌, sym, refl, ap, ◌∙◌, subst, inl, inr, arith}
-use Rattle.std.proofs.lemmas.Bool.Decides.{nat_tests}
+use Rattle.std.proofs.Common.{◌≡◌, ℕ, suc, ◌+◌, ◌*◌, ◌<◌, ◌≤◌, cond, eqb, ◌≢◌, ◌⊎◌, sym, ap, ◌∙◌, subst, inl, inr, arith}
 use Rattle.std.proofs.lemmas.Bool.{cases_eq}
 use Rattle.plain.specs.Changed.{changed}
 use Rattle.plain.proofs.Changed.{changed_at, changed_elsewhere}
@@ -134,20 +133,20 @@ module _ {lk lk' stage rank : ℕ → ℕ} (o : Ordered lk stage rank) (p y : �
       p_ne = live_ne p (omega arith)
 
       falls' : (x : ℕ) → stage' x < 3 → lk' x ≢ 0 → rank' (lk' x) < rank' x
-      falls' x l n = grind (arith, nat_tests, cases_eq x y, cases_eq x p, s.rest, live_ne)
+      falls' x l n = grind arith
 
       down' : (x : ℕ) → stage' x < 3 → stage' (lk' x) ≤ stage' x
-      down' x l = grind (arith, nat_tests, cases_eq x y, cases_eq x p, s.rest, live_ne)
+      down' x l = grind arith
 
       -- p alone links to y, and y alone to what p linked to
       to_y : (b : ℕ) → stage' b ≡ 0 → lk' b ≡ y → b ≡ p
-      to_y b kb e = grind (arith, nat_tests, cases_eq b y, cases_eq b p, s.rest, live_ne)
+      to_y b kb e = grind arith
 
       to_after : (b : ℕ) → b ≢ y → stage' b ≡ 0 → lk' b ≡ lk p → lk' b ≢ 0 → ⊥
-      to_after b w kb e n = grind (arith, nat_tests, cases_eq b p, s.rest, live_ne)
+      to_after b w kb e n = grind arith
 
       single' : (a b : ℕ) → stage' a ≡ 0 → stage' b ≡ 0 → lk' a ≡ lk' b → lk' a ≢ 0 → a ≡ b
-      single' a b ka kb e n = grind (arith, nat_tests, cases_eq a y, cases_eq b y, cases_eq a p, cases_eq b p, to_y, to_after, s.rest)
+      single' a b ka kb e n = grind arith
 
 module _ {lk lk' stage rank : ℕ → ℕ} (o : Ordered lk stage rank) (p : ℕ) (s : Skipped lk lk' p) (kp : stage p ≡ 0) (ne : lk p ≢ 0) where
   pub skip_back : {z u : ℕ} → Ahead lk' z u → Ahead lk z u
@@ -216,7 +215,7 @@ module _ {lk lk' stage rank : ℕ → ℕ} (o : Ordered lk stage rank) (p : ℕ)
       kx = omega arith
 
       live' : (u : ℕ) → stage' u < 3 → stage u < 3
-      live' u l = grind (arith, nat_tests)
+      live' u l = grind arith
 
       p_ne : p ≢ x
       p_ne e = omega (arith, ap rank e)
@@ -225,16 +224,16 @@ module _ {lk lk' stage rank : ℕ → ℕ} (o : Ordered lk stage rank) (p : ℕ)
       after_ne e = omega (arith, ap rank e)
 
       falls' : (u : ℕ) → stage' u < 3 → lk' u ≢ 0 → rank (lk' u) < rank u
-      falls' u l n = grind (arith, nat_tests, cases_eq u p, s.rest)
+      falls' u l n = grind arith
 
       down' : (u : ℕ) → stage' u < 3 → stage' (lk' u) ≤ stage' u
-      down' u l = grind (arith, nat_tests, cases_eq u p, cases_eq u x, cases_eq (lk u) x, s.rest, after_ne)
+      down' u l = grind arith
 
       listed_ne : (a : ℕ) → stage' a ≡ 0 → a ≢ x
       listed_ne a k e = omega (arith, changed_at stage x a 1 e)
 
       single' : (a b : ℕ) → stage' a ≡ 0 → stage' b ≡ 0 → lk' a ≡ lk' b → lk' a ≢ 0 → a ≡ b
-      single' a b ka kb e n = grind (arith, nat_tests, cases_eq a p, cases_eq b p, s.rest)
+      single' a b ka kb e n = grind arith
 
 -- ---- a wait begins, or is found over: stage a becomes the next one
 
@@ -242,13 +241,13 @@ abbrev pub raised : ℕ → ℕ → ℕ
 raised a k = cond (eqb k a) (suc a) k
 
 pub raised_cases : (a k : ℕ) → ((k ≡ a) × (raised a k ≡ suc a)) ⊎ ((k ≢ a) × (raised a k ≡ k))
-raised_cases a k = grind (arith, nat_tests)
+raised_cases a k = grind arith
 
 pub raised_ordered : {lk stage rank : ℕ → ℕ} (a : ℕ) → 0 < a → a < 3 → Ordered lk stage rank → Ordered lk (λ x. raised a (stage x)) rank
 raised_ordered {lk} {stage} a pos small o = record {
   head = omega (arith, raised_cases a (stage 0));
   falls = λ x l n. o.falls x (live x l) n;
-  down = λ x l. omega (arith, raised_cases a (stage x), raised_cases a (stage (lk x)), o.down x (live x l));
+  down = λ x l. omega (arith, raised_cases a (stage x), raised_cases a (stage (lk x)));
   single = λ x y kx ky e n. o.single x y (listed x kx) (listed y ky) e n;
 }
   where
