@@ -3,7 +3,6 @@
 use Rattle.std.proofs.Common.{◌≡◌, ℕ, suc, ◌+◌, ◌*◌, ◌<◌, ◌≤◌, cond, eqb, ◌≢◌, ◌⊎◌, sym, ap, ◌∙◌, subst, inl, inr, arith}
 use Rattle.std.proofs.lemmas.Bool.{cases_eq}
 use Rattle.plain.specs.Changed.{changed}
-use Rattle.plain.proofs.Changed.{changed_at, changed_elsewhere}
 
 -- z is reached from the place x by one link or more
 pub data Ahead (lk : ℕ → ℕ) (z : ℕ) : ℕ → Type 0 where
@@ -74,10 +73,10 @@ pub record Skipped (lk lk' : ℕ → ℕ) (p : ℕ) : Type 0 where
 
 module _ {lk lk' stage rank : ℕ → ℕ} (o : Ordered lk stage rank) (p y : ℕ) (s : Spliced lk lk' p y) (kp : stage p ≡ 0) (ky : stage y ≡ 3) where
   y_ne : y ≢ 0
-  y_ne e = omega (arith, ap stage e)
+  y_ne e = grind arith
 
   live_ne : (x : ℕ) → stage x < 3 → x ≢ y
-  live_ne x l e = omega (arith, ap stage e)
+  live_ne x l e = grind arith
 
   pub splice_fwd : {z x : ℕ} → stage x < 3 → Ahead lk z x → Ahead lk' z x
   splice_fwd {z} {x} l (next n e) = elim (cases_eq x p) [
@@ -118,35 +117,12 @@ module _ {lk lk' stage rank : ℕ → ℕ} (o : Ordered lk stage rank) (p y : �
 
   -- the stages and ranks with y listed
   pub splice_ordered : Ordered lk' (changed stage y 0) (changed (λ x. 2 * rank x + 2) y (2 * rank p + 1))
-  splice_ordered = record { head = cc (changed_elsewhere stage y 0 0 (λ e. y_ne (sym e))); falls = falls'; down = down'; single = single' }
-    where
-      stage' : ℕ → ℕ
-      stage' = changed stage y 0
-
-      rank' : ℕ → ℕ
-      rank' = changed (λ x. 2 * rank x + 2) y (2 * rank p + 1)
-
-      live' : (x : ℕ) → x ≢ y → stage' x < 3 → stage x < 3
-      live' x n l = omega (arith, changed_elsewhere stage y x 0 n)
-
-      p_ne : p ≢ y
-      p_ne = live_ne p (omega arith)
-
-      falls' : (x : ℕ) → stage' x < 3 → lk' x ≢ 0 → rank' (lk' x) < rank' x
-      falls' x l n = grind arith
-
-      down' : (x : ℕ) → stage' x < 3 → stage' (lk' x) ≤ stage' x
-      down' x l = grind arith
-
-      -- p alone links to y, and y alone to what p linked to
-      to_y : (b : ℕ) → stage' b ≡ 0 → lk' b ≡ y → b ≡ p
-      to_y b kb e = grind arith
-
-      to_after : (b : ℕ) → b ≢ y → stage' b ≡ 0 → lk' b ≡ lk p → lk' b ≢ 0 → ⊥
-      to_after b w kb e n = grind arith
-
-      single' : (a b : ℕ) → stage' a ≡ 0 → stage' b ≡ 0 → lk' a ≡ lk' b → lk' a ≢ 0 → a ≡ b
-      single' a b ka kb e n = grind arith
+  splice_ordered = record {
+    head = grind arith;
+    falls = λ x l n. grind arith;
+    down = λ x l. grind arith;
+    single = λ a b ka kb e n. grind arith;
+  }
 
 module _ {lk lk' stage rank : ℕ → ℕ} (o : Ordered lk stage rank) (p : ℕ) (s : Skipped lk lk' p) (kp : stage p ≡ 0) (ne : lk p ≢ 0) where
   pub skip_back : {z u : ℕ} → Ahead lk' z u → Ahead lk z u
@@ -203,37 +179,12 @@ module _ {lk lk' stage rank : ℕ → ℕ} (o : Ordered lk stage rank) (p : ℕ)
 
   -- the stages with the skipped node due
   pub skip_ordered : Ordered lk' (changed stage (lk p) 1) rank
-  skip_ordered = record { head = cc (changed_elsewhere stage x 0 1 (λ e. ne (sym e))); falls = falls'; down = down'; single = single' }
-    where
-      x : ℕ
-      x = lk p
-
-      stage' : ℕ → ℕ
-      stage' = changed stage x 1
-
-      kx : stage x ≡ 0
-      kx = omega arith
-
-      live' : (u : ℕ) → stage' u < 3 → stage u < 3
-      live' u l = grind arith
-
-      p_ne : p ≢ x
-      p_ne e = omega (arith, ap rank e)
-
-      after_ne : lk x ≢ x
-      after_ne e = omega (arith, ap rank e)
-
-      falls' : (u : ℕ) → stage' u < 3 → lk' u ≢ 0 → rank (lk' u) < rank u
-      falls' u l n = grind arith
-
-      down' : (u : ℕ) → stage' u < 3 → stage' (lk' u) ≤ stage' u
-      down' u l = grind arith
-
-      listed_ne : (a : ℕ) → stage' a ≡ 0 → a ≢ x
-      listed_ne a k e = omega (arith, changed_at stage x a 1 e)
-
-      single' : (a b : ℕ) → stage' a ≡ 0 → stage' b ≡ 0 → lk' a ≡ lk' b → lk' a ≢ 0 → a ≡ b
-      single' a b ka kb e n = grind arith
+  skip_ordered = record {
+    head = grind arith;
+    falls = λ u l n. grind arith;
+    down = λ u l. grind arith;
+    single = λ a b ka kb e n. grind arith;
+  }
 
 -- ---- a wait begins, or is found over: stage a becomes the next one
 
@@ -244,15 +195,9 @@ pub raised_cases : (a k : ℕ) → ((k ≡ a) × (raised a k ≡ suc a)) ⊎ ((k
 raised_cases a k = grind arith
 
 pub raised_ordered : {lk stage rank : ℕ → ℕ} (a : ℕ) → 0 < a → a < 3 → Ordered lk stage rank → Ordered lk (λ x. raised a (stage x)) rank
-raised_ordered {lk} {stage} a pos small o = record {
-  head = omega (arith, raised_cases a (stage 0));
-  falls = λ x l n. o.falls x (live x l) n;
-  down = λ x l. omega (arith, raised_cases a (stage x), raised_cases a (stage (lk x)));
-  single = λ x y kx ky e n. o.single x y (listed x kx) (listed y ky) e n;
+raised_ordered a pos small o = record {
+  head = grind arith;
+  falls = λ x l n. grind arith;
+  down = λ x l. grind arith;
+  single = λ x y kx ky e n. grind arith;
 }
-  where
-    live : (x : ℕ) → raised a (stage x) < 3 → stage x < 3
-    live x l = omega (arith, raised_cases a (stage x))
-
-    listed : (x : ℕ) → raised a (stage x) ≡ 0 → stage x ≡ 0
-    listed x l = omega (arith, raised_cases a (stage x))
