@@ -3,10 +3,10 @@
 use Rattle.std.proofs.Common.{◌≡◌, ℕ, suc, ◌<◌, ◌≤◌, ◌≢◌, ◌∷◌, refl, ap, ◌∙◌, inl, inr, arith}
 use Rattle.std.proofs.lemmas.Bool.{cases_eq}
 use Rattle.plain.specs.Changed.{changed}
-use Rattle.plain.proofs.Changed.{changed_at, changed_elsewhere}
+use Rattle.plain.proofs.Changed.{changed_elsewhere}
 use Rattle.plain.specs.Pools.{Pool, covering, freeing}
 use Rattle.plain.specs.Boards.{new_board}
-use Rattle.plain.proofs.Links.{raised, raised_cases}
+use Rattle.plain.proofs.Links.{raised}
 use Rattle.plain.proofs.Lists.{In, in_cases, in_append, Apart, apart_head, apart_tail, apart_append, in_upto, apart_upto}
 use Rattle.plain.proofs.Shape.{Books}
 
@@ -30,12 +30,12 @@ module _ {size : ℕ} {q q' : Pool} {stage : ℕ → ℕ} {y : ℕ} (k : Books s
   books_fill = record {
     bounded = λ x l. elim (cases_eq x y) [
       | inl e ↦ rw e fresh.1
-      | inr n ↦ k.bounded x (omega (arith, changed_elsewhere stage y x 0 n))
+      | inr n ↦ k.bounded x (grind arith)
     ];
     in_free = λ x i.
         let n : x ≢ y = λ e. apart_head free_apart (rw e at i) in
         let r = k.in_free x (rw f.free (In.later i)) in
-        (changed_elsewhere stage y x 0 n ∙ r.0, r.1);
+        (grind arith, r.1);
     in_due = λ x i. let r = k.in_due x (rw f.due at i) in changed_elsewhere stage y x 0 (not_fresh x (omega arith)) ∙ r;
     in_covered = λ x i. let r = k.in_covered x (rw f.covered at i) in changed_elsewhere stage y x 0 (not_fresh x (omega arith)) ∙ r;
     apart_free = apart_tail free_apart;
@@ -51,7 +51,7 @@ module _ {size : ℕ} {q q' : Pool} {stage : ℕ → ℕ} {y : ℕ} (k : Books s
       below : (x : ℕ) → q'.stamp x < q'.next_stamp
       below x =
           elim (cases_eq x y) [
-            | inl e ↦ omega (arith, ap (λ (z : ℕ). q'.stamp z) e ∙ f.stamp_new)
+            | inl e ↦ grind arith
             | inr e ↦ omega arith
           ]
 
@@ -69,7 +69,7 @@ module _ {size : ℕ} {q q' : Pool} {stage : ℕ → ℕ} {y : ℕ} (k : Books s
           | inr r ↦
               let ex = changed_elsewhere stage y x 0 p in
               let ez = changed_elsewhere stage y z 0 r in
-              k.stamps_apart x z nx nz (omega arith) (omega arith) (cc (f.stamp_old x p, f.stamp_old z r))
+              k.stamps_apart x z nx nz (omega arith) (omega arith) (grind arith)
         ]
       ]
 
@@ -85,57 +85,57 @@ module _ {size : ℕ} {q q' : Pool} {stage : ℕ → ℕ} {x : ℕ} (k : Books s
   pub books_retire : Books size q' (changed stage x 1)
   books_retire = record {
     bounded = λ z l. k.bounded z (live z l);
-    in_free = λ z i. let r = k.in_free z (rw f.free at i) in (other z (omega arith) ∙ r.0, r.1);
+    in_free = λ z i. let r = k.in_free z (rw f.free at i) in (grind arith, r.1);
     in_due = λ z i. elim (in_cases (rw f.due at i)) [
-      | inl e ↦ changed_at stage x z 1 e
-      | inr j ↦ let r = k.in_due z j in other z (omega arith) ∙ r
+      | inl e ↦ grind arith
+      | inr j ↦ let r = k.in_due z j in grind arith
     ];
-    in_covered = λ z i. let r = k.in_covered z (rw f.covered at i) in other z (omega arith) ∙ r;
+    in_covered = λ z i. let r = k.in_covered z (rw f.covered at i) in grind arith;
     apart_free = rw f.free k.apart_free;
-    apart_due = rw f.due (Apart.one_more (λ (i : In x q.due). omega (arith, k.in_due x i)) k.apart_due);
+    apart_due = rw f.due (Apart.one_more (λ (i : In x q.due). grind arith) k.apart_due);
     apart_covered = rw f.covered k.apart_covered;
-    stamps_below = λ z. omega (arith, f.stamp z, f.next_stamp);
-    stamps_apart = λ u v nu nv lu lv e. k.stamps_apart u v nu nv (live u lu) (live v lv) (cc (f.stamp u, f.stamp v));
+    stamps_below = λ z. grind arith;
+    stamps_apart = λ u v nu nv lu lv e. k.stamps_apart u v nu nv (live u lu) (live v lv) (grind arith);
   }
     where
       other : (z : ℕ) → stage z ≢ 0 → changed stage x 1 z ≡ stage z
-      other z n = changed_elsewhere stage x z 1 (λ e. n (cc))
+      other z n = grind arith
 
       live : (z : ℕ) → changed stage x 1 z < 3 → stage z < 3
       live z l = elim (cases_eq z x) [
-        | inl e ↦ omega (arith, ap stage e)
-        | inr n ↦ omega (arith, changed_elsewhere stage x z 1 n)
+        | inl e ↦ grind arith
+        | inr n ↦ grind arith
       ]
 
 -- ---- waits
 
 pub books_begin : {size : ℕ} {q : Pool} {stage : ℕ → ℕ} → Books size q stage → Books size (covering q) (λ x. raised 1 (stage x))
 books_begin {stage = stage} k = record {
-  bounded = λ x l. k.bounded x (omega (arith, raised_cases 1 (stage x)));
-  in_free = λ x i. let r = k.in_free x i in (omega (arith, raised_cases 1 (stage x)), r.1);
+  bounded = λ x l. k.bounded x (grind arith);
+  in_free = λ x i. let r = k.in_free x i in (grind arith, r.1);
   in_due = λ x i. elim i [ ];
-  in_covered = λ x i. omega (arith, raised_cases 1 (stage x));
+  in_covered = λ x i. grind arith;
   apart_free = k.apart_free;
   apart_due = Apart.nothing;
   apart_covered = k.apart_due;
   stamps_below = k.stamps_below;
-  stamps_apart = λ u v nu nv lu lv e. k.stamps_apart u v nu nv (omega (arith, raised_cases 1 (stage u))) (omega (arith, raised_cases 1 (stage v))) e;
+  stamps_apart = λ u v nu nv lu lv e. k.stamps_apart u v nu nv (grind arith) (grind arith) e;
 }
 
 pub books_over : {size : ℕ} {q : Pool} {stage : ℕ → ℕ} → Books size q stage → Books size (freeing q) (λ x. raised 2 (stage x))
 books_over {q = q} {stage = stage} k = record {
-  bounded = λ x l. k.bounded x (omega (arith, raised_cases 2 (stage x)));
+  bounded = λ x l. k.bounded x (grind arith);
   in_free = λ x i. elim (in_append q.covered i) [
-    | inl j ↦ (omega (arith, k.in_covered x j, raised_cases 2 (stage x)), k.bounded x (omega (arith, k.in_covered x j)))
-    | inr j ↦ let r = k.in_free x j in (omega (arith, raised_cases 2 (stage x)), r.1)
+    | inl j ↦ (grind arith, k.bounded x (grind arith))
+    | inr j ↦ let r = k.in_free x j in (grind arith, r.1)
   ];
-  in_due = λ x i. omega (arith, raised_cases 2 (stage x));
+  in_due = λ x i. grind arith;
   in_covered = λ x i. elim i [ ];
-  apart_free = apart_append k.apart_covered k.apart_free (λ x i j. omega (arith, k.in_free x j));
+  apart_free = apart_append k.apart_covered k.apart_free (λ x i j. grind arith);
   apart_due = k.apart_due;
   apart_covered = Apart.nothing;
   stamps_below = k.stamps_below;
-  stamps_apart = λ u v nu nv lu lv e. k.stamps_apart u v nu nv (omega (arith, raised_cases 2 (stage u))) (omega (arith, raised_cases 2 (stage v))) e;
+  stamps_apart = λ u v nu nv lu lv e. k.stamps_apart u v nu nv (grind arith) (grind arith) e;
 }
 
 -- ---- a new board
@@ -145,11 +145,11 @@ abbrev pub new_stages : ℕ → ℕ
 new_stages = changed (λ x. 3) 0 0
 
 new_free : (x : ℕ) → x ≢ 0 → new_stages x ≡ 3
-new_free x n = changed_elsewhere {A = ℕ} (λ z. 3) 0 x 0 n
+new_free x n = grind arith
 
 pub books_new : (m n s : ℕ) → 0 < s → Books n (new_board m n s).pool new_stages
 books_new m n s h = record {
-  bounded = λ x l. elim (cases_eq x 0) [ inl e ↦ omega arith | inr e ↦ absurd (omega (arith, new_free x e)) ];
+  bounded = λ x l. elim (cases_eq x 0) [ inl e ↦ omega arith | inr e ↦ absurd (grind arith) ];
   in_free = λ x i. let r = in_upto 1 n i in (new_free x (omega arith), omega arith);
   in_due = λ x i. elim i [ ];
   in_covered = λ x i. elim i [ ];
@@ -157,5 +157,5 @@ books_new m n s h = record {
   apart_due = Apart.nothing;
   apart_covered = Apart.nothing;
   stamps_below = λ x. h;
-  stamps_apart = λ u v nu nv lu lv e. absurd (omega (arith, new_free u nu));
+  stamps_apart = λ u v nu nv lu lv e. absurd (grind arith);
 }

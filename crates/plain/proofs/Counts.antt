@@ -35,10 +35,10 @@ module _ {size : ℕ} {q : Pool} {stage rank : ℕ → ℕ} (s : Shaped size q s
   pub all_apart : Apart (on_list ++ off_list)
   all_apart = apart_append listed_apart
       (apart_append s.books.apart_free
-      (apart_append s.books.apart_due s.books.apart_covered (λ x i j. omega (arith, s.books.in_covered x j)))
+      (apart_append s.books.apart_due s.books.apart_covered (λ x i j. grind arith))
       (λ x i j. elim (in_append q.due j) [
-        | inl l ↦ omega (arith, s.books.in_due x l)
-        | inr l ↦ omega (arith, s.books.in_covered x l)
+        | inl l ↦ grind arith
+        | inr l ↦ grind arith
       ]))
       (λ x i j. (in_off x j).0 (in_list x i).0)
 

@@ -1,7 +1,6 @@
 -- What each call does as far as visits, removals and waits go: to the scheme's meaning, and to the due and the covered chain (did).
 -- It is told in the scheme's own words, by a call of the scheme. Assumes nothing.
 use Rattle.std.proofs.Common.{◌≡◌, ℕ, Bool, true, false, not, ◌||◌, eqb, ◌↔◌, List, [], ◌∷◌, refl, ap, ◌∙◌, arith}
-use Rattle.std.proofs.lemmas.Bool.Decides.{nat_tests}
 use Rattle.std.proofs.lemmas.Bool.{cond_both}
 use Rattle.scheme.specs.declared.interface.Poll.{Poll}
 use Rattle.scheme.specs.declared.interface.Poll.TheVariants.{NoWait, NotYet, Over}
@@ -90,12 +89,12 @@ not_told {b} {m} quiet who = record {
 }
   where
     not_by : (c : Call) → telling c ≡ true → m.call ≡ c → ⊥
-    not_by c t e = cc (ap telling e)
+    not_by c t e = grind arith
 
 pub not_removal : {m : Moment} → removing m.call ≡ false → Removes m → ⊥
-not_removal {m} keeps (Removes.by_cut k n s e q) = cc (ap removing e)
-not_removal {m} keeps (Removes.by_swap k v w x y n s e q) = cc (ap removing e)
-not_removal {m} keeps (Removes.by_finish n s e q) = cc (ap removing e)
+not_removal {m} keeps (Removes.by_cut k n s e q) = grind arith
+not_removal {m} keeps (Removes.by_swap k v w x y n s e q) = grind arith
+not_removal {m} keeps (Removes.by_finish n s e q) = grind arith
 
 -- ---- refused calls
 
@@ -191,7 +190,7 @@ module _ {b : Board} {stage rank : ℕ → ℕ} (f : Fine b stage rank) (a : Are
   did_accepted : (c : Call) → Passed (checks making b a c) → Did b (moment c (accepted making b a c))
   did_accepted (Call.enter r) passed =
       let few = f.few in
-      let may : may_enter r b.who ≡ true = grind (arith, nat_tests) in
+      let may : may_enter r b.who ≡ true = grind arith in
       visit_did (Call.enter r) _ (Enter r) (record { echoes = answered enter_echoes (ap told may); who = refl }) (λ e. cc) refl refl
   did_accepted (Call.leave r) passed =
       let inside : b.who.inside r ≡ true = grind arith in

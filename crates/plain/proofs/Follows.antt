@@ -1,7 +1,6 @@
 -- What holds of every board (Fine), and what one call gives (Follows).
 -- Each call of a reader that is no step, and tend, keep it. Assumes nothing.
-use Rattle.std.proofs.Common.{◌≡◌, ℕ, ◌<◌, ◌≤◌, Bool, true, false, cond, not, ◌||◌, ◌≢◌, [], length, sym, refl, ap, ◌∙◌, inl, inr, arith}
-use Rattle.std.proofs.lemmas.Bool.Decides.{nat_tests}
+use Rattle.std.proofs.Common.{◌≡◌, ℕ, ◌<◌, ◌≤◌, Bool, true, false, cond, not, ◌||◌, ◌≢◌, [], length, sym, refl, ap, inl, inr, arith}
 use Rattle.std.proofs.lemmas.Bool.{cases_eq, cond_both}
 use Rattle.scheme.specs.declared.interface.Poll.{Poll}
 use Rattle.scheme.specs.declared.interface.Poll.TheVariants.{NoWait, NotYet, Over}
@@ -61,7 +60,7 @@ module _ {b : Board} {stage rank : ℕ → ℕ} (f : Fine b stage rank) (a : Are
       sound = f.sound;
       few = f.few;
       rests = λ r i. (t.turned (b.who.awaited r)).guards (b.slots r).place (f.rests r i);
-      idle = λ e. cc (f.idle e);
+      idle = λ e. grind arith;
     };
     sized = refl;
     stays = λ r i n. i;
@@ -114,23 +113,23 @@ module _ {b : Board} {stage rank : ℕ → ℕ} (f : Fine b stage rank) (a : Are
       idle = λ e. f.idle (cc);
     };
     sized = refl;
-    stays = λ u i n. (same u (other u i n)).0 ∙ i;
+    stays = λ u i n. grind arith;
     turned = λ u i n. quiet_turned f.shaped a (b.who.awaited u) (w.awaited u) (same u (other u i n)).1;
   }
 
   pub reader_enters : (making : Making) (r : ℕ) → r < b.readers → b.who.inside r ≡ false → Follows b a stage (moment (Call.enter r) (accepted making b a (Call.enter r)))
   reader_enters making r l out =
       rw in_now (reader_turns (Call.enter r) r (entered b.who r) (rw in_now at (enter_sound r b.who f.sound)) refl
-      (λ u n. (changed_elsewhere b.who.inside r u true n, changed_elsewhere b.who.awaited r u false n))
+      (λ u n. (grind arith, changed_elsewhere b.who.awaited r u false n))
       (λ u i n e. cc))
     where
       in_now : (on_enter r b.who).next ≡ entered b.who r
-      in_now = grind (arith, nat_tests)
+      in_now = grind arith
 
   pub reader_leaves : (making : Making) (r : ℕ) → b.who.inside r ≡ true → Follows b a stage (moment (Call.leave r) (accepted making b a (Call.leave r)))
   reader_leaves making r inside =
       rw out_now (reader_turns (Call.leave r) r (left b.who r) (rw out_now at (leave_sound r b.who f.sound)) refl
-      (λ u n. (changed_elsewhere b.who.inside r u false n, changed_elsewhere b.who.awaited r u false n))
+      (λ u n. (grind arith, changed_elsewhere b.who.awaited r u false n))
       (λ u i n e. n (ap Call.leave (sym e), refl)))
     where
       out_now : (on_leave r b.who).next ≡ left b.who r

@@ -1,6 +1,6 @@
 -- A wait begins, and is found over:
 -- the pool is sound again, and a reader that was not awaited stands on no node that is freed. Assumes nothing.
-use Rattle.std.proofs.Common.{◌≡◌, ℕ, Bool, true, false, ◌≢◌, [], refl, ◌∙◌, inl, arith}
+use Rattle.std.proofs.Common.{◌≡◌, ℕ, Bool, true, false, ◌≢◌, [], refl, inl, arith}
 use Rattle.plain.specs.Pools.{Pool, Move, Need, covering, freeing, at_begin, at_over, old_of}
 use Rattle.plain.specs.Boards.{Area}
 use Rattle.plain.proofs.Links.{raised, raised_cases, raised_ordered}
@@ -50,7 +50,7 @@ module _ {size : ℕ} {q : Pool} {stage rank : ℕ → ℕ} (s : Shaped size q s
   begin_shaped e = record {
     ordered = raised_ordered 1 (omega arith) (omega arith) s.ordered;
     books = books_begin s.books;
-    keys_apart = λ x y ax ay nx ny k. s.keys_apart x y ax ay (λ w. nx (cc (old_at_begin q.move))) (λ w. ny (cc (old_at_begin q.move))) k;
+    keys_apart = λ x y ax ay nx ny k. s.keys_apart x y ax ay (λ w. nx (grind arith)) (λ w. ny (grind arith)) k;
     moved = moved_begin q q.move s.moved;
     somewhere = λ x n l. begun_somewhere e x (s.somewhere x n l);
   }
@@ -59,7 +59,7 @@ module _ {size : ℕ} {q : Pool} {stage rank : ℕ → ℕ} (s : Shaped size q s
   over_shaped = record {
     ordered = raised_ordered 2 (omega arith) (omega arith) s.ordered;
     books = books_over s.books;
-    keys_apart = λ x y ax ay nx ny e. s.keys_apart x y ax ay (λ w. nx (cc (old_at_over q.move))) (λ w. ny (cc (old_at_over q.move))) e;
+    keys_apart = λ x y ax ay nx ny e. s.keys_apart x y ax ay (λ w. nx (grind arith)) (λ w. ny (grind arith)) e;
     moved = moved_over q q.move s.moved;
     somewhere = λ x n l. over_somewhere x (s.somewhere x n l);
   }
@@ -68,7 +68,7 @@ module _ {size : ℕ} {q : Pool} {stage rank : ℕ → ℕ} (s : Shaped size q s
   pub begin_turned : (a : Area) (aw aw' : Bool) → aw' ≡ true → Turned q (covering q) a a stage (λ x. raised 1 (stage x)) aw aw'
   begin_turned a aw aw' e = record {
     kept = λ x n l. record { key = refl; stamp = refl; fields = refl };
-    guards = λ x g. record { live = omega (arith, g.live, raised_cases 1 (stage x)); waits = λ w. e };
+    guards = λ x g. record { live = grind arith; waits = λ w. e };
     back = λ x z l b. inl b;
     fwd = λ x z l b. Carried.stays b;
     owed = λ c w. (owed_begin q.move aw aw' c e w, λ x b. b);
@@ -79,7 +79,7 @@ module _ {size : ℕ} {q : Pool} {stage rank : ℕ → ℕ} (s : Shaped size q s
   over_turned a aw aw' e = record {
     kept = λ x n l. record { key = refl; stamp = refl; fields = refl };
     guards = λ x g.
-        let n : stage x ≢ 2 = λ w. cc (g.waits w) in
+        let n : stage x ≢ 2 = λ w. grind arith in
         let l = g.live in
         let c = raised_cases 2 (stage x) in
         record { live = omega arith; waits = λ w. absurd (omega arith) };
@@ -92,7 +92,7 @@ module _ {size : ℕ} {q : Pool} {stage rank : ℕ → ℕ} (s : Shaped size q s
   pub quiet_turned : (a : Area) (aw aw' : Bool) → aw' ≡ aw → Turned q q a a stage stage aw aw'
   quiet_turned a aw aw' e = record {
     kept = λ x n l. record { key = refl; stamp = refl; fields = refl };
-    guards = λ x g. record { live = g.live; waits = λ w. e ∙ g.waits w };
+    guards = λ x g. record { live = g.live; waits = λ w. grind arith };
     back = λ x z l b. inl b;
     fwd = λ x z l b. Carried.stays b;
     owed = λ c w. (rw e at w, λ x b. b);

@@ -36,7 +36,7 @@ ahead_trans (more n a) b = more n (ahead_trans a b)
 
 -- the same links, the same nodes ahead
 pub ahead_same : {lk lk' : ℕ → ℕ} {z x : ℕ} → ((y : ℕ) → lk' y ≡ lk y) → Ahead lk z x → Ahead lk' z x
-ahead_same {x} s (next n e) = next (λ q. n (cc (s x))) (s x ∙ e)
+ahead_same {x} s (next n e) = next (λ q. n (grind arith)) (s x ∙ e)
 ahead_same {x} s (more n a) = more_at n (s x) (ahead_same s a)
 
 -- stage 0 is listed (and place 0), 1 due, 2 covered, 3 free; rank falls along links
@@ -81,7 +81,7 @@ module _ {lk lk' stage rank : ℕ → ℕ} (o : Ordered lk stage rank) (p y : �
   pub splice_fwd : {z x : ℕ} → stage x < 3 → Ahead lk z x → Ahead lk' z x
   splice_fwd {z} {x} l (next n e) = elim (cases_eq x p) [
     | inl q ↦ more_at y_ne (cc) (next_at (λ w. n (e ∙ w)) (cc))
-    | inr q ↦ next_at (λ w. n (e ∙ w)) (s.rest x q (live_ne x l) ∙ e)
+    | inr q ↦ next_at (λ w. n (e ∙ w)) (grind arith)
   ]
   splice_fwd {z} {x} l (more n a) =
       let b = splice_fwd (omega arith) a in
@@ -95,7 +95,7 @@ module _ {lk lk' stage rank : ℕ → ℕ} (o : Ordered lk stage rank) (p y : �
     (λ q. inr (next_at (λ w. n (e ∙ w)) (cc))),
     (λ l. elim (cases_eq x p) [
       | inl q ↦ inl (cc)
-      | inr q ↦ inr (next_at (λ w. n (e ∙ w)) (cc (s.rest x q (live_ne x l))))
+      | inr q ↦ inr (next_at (λ w. n (e ∙ w)) (grind arith))
     ]),
   )
   splice_back_both {z} {x} (more n a) = let b = splice_back_both a in (
@@ -128,7 +128,7 @@ module _ {lk lk' stage rank : ℕ → ℕ} (o : Ordered lk stage rank) (p : ℕ)
   pub skip_back : {z u : ℕ} → Ahead lk' z u → Ahead lk z u
   skip_back {z} {u} (next n e) = elim (cases_eq u p) [
     | inl q ↦ more_at ne (ap lk q) (next_at (λ w. n (e ∙ w)) (cc))
-    | inr q ↦ next_at (λ w. n (e ∙ w)) (cc (s.rest u q))
+    | inr q ↦ next_at (λ w. n (e ∙ w)) (grind arith)
   ]
   skip_back {z} {u} (more n a) =
       let b = skip_back a in
@@ -142,7 +142,7 @@ module _ {lk lk' stage rank : ℕ → ℕ} (o : Ordered lk stage rank) (p : ℕ)
       let z_ne : z ≢ 0 = λ w. n (e ∙ w) in (
         elim (cases_eq u p) [
           | inl q ↦ absurd (nz (cc))
-          | inr q ↦ next_at z_ne (s.rest u q ∙ e)
+          | inr q ↦ next_at z_ne (grind arith)
         ],
         (λ q. next_at z_ne (cc)),
       )
@@ -162,7 +162,7 @@ module _ {lk lk' stage rank : ℕ → ℕ} (o : Ordered lk stage rank) (p : ℕ)
   pub skip_lost : {u : ℕ} → Ahead lk (lk p) u → (u ≡ p) ⊎ (Ahead lk p u ⊎ Ahead lk' (lk p) u)
   skip_lost {u} (next n e) = elim (cases_eq u p) [
     | inl q ↦ inl q
-    | inr q ↦ inr (inr (next_at ne (s.rest u q ∙ e)))
+    | inr q ↦ inr (inr (next_at ne (grind arith)))
   ]
   skip_lost {u} (more n a) =
       let b = skip_lost a in

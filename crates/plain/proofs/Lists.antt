@@ -2,7 +2,6 @@
 -- Of the numbers 1 to n, a list of some of them that are apart leaves out n less its length. Assumes nothing.
 use Rattle.std.proofs.Common.{◌≡◌, ℕ, zero, suc, ◌+◌, ◌<◌, ◌≤◌, Bool, true, false, not, ◌||◌, eqb, ltb, ◌⊎◌, List, [], ◌∷◌, ◌++◌, length, refl, ap, inl, inr, arith}
 use Rattle.std.proofs.lemmas.Bool.{cases_eq, eqb-true, eq-eqb, or_cases, or_left, or_right, lt-ltb, false_from_ne_true}
-use Rattle.std.proofs.lemmas.Bool.Decides.{nat_tests}
 use Rattle.scheme.specs.Counts.{one, count_below}
 use Rattle.plain.specs.Pools.{upto}
 use Rattle.plain.specs.Waits.{has}
@@ -85,11 +84,11 @@ count_all (suc n) = let rest = count_all n in let last : one true ≡ 1 = refl i
 
 one_further : (n x : ℕ) (has : ℕ → Bool) (a b : ℕ) → has (suc x) ≡ false → a + one (ltb x n) ≡ b →
     a + one (not (eqb (suc n) (suc x) || has (suc n))) + one (ltb x (suc n)) ≡ b + one (not (has (suc n)))
-one_further n x has a b d e = grind (arith, nat_tests)
+one_further n x has a b d e = grind arith
 
 -- one number more in the list is one less that is left out
 more_in : (n x : ℕ) (xs : List ℕ) → has xs (suc x) ≡ false → count_below (left_out (suc x ∷ xs)) n + one (ltb x n) ≡ count_below (left_out xs) n
-more_in zero x xs d = grind (arith, nat_tests)
+more_in zero x xs d = grind arith
 more_in (suc n) x xs d = one_further n x (has xs) _ _ d (more_in n x xs d)
 
 pub left_out_count : (n : ℕ) {xs : List ℕ} → Apart xs → ((x : ℕ) → In x xs → (0 < x) × (x ≤ n)) → count_below (λ i. not (has xs (suc i))) n + length xs ≡ n

@@ -1,7 +1,6 @@
 -- What holds of every board holds of a new one, and a board that was made is a new one. Assumes nothing.
-use Rattle.std.proofs.Common.{◌≡◌, ℕ, ◌<◌, ◌≤◌, eqb, refl, ap, inl, arith}
+use Rattle.std.proofs.Common.{◌≡◌, ℕ, ◌<◌, ◌≤◌, eqb, refl, inl, arith}
 use Rattle.std.proofs.lemmas.Bool.{cond_both}
-use Rattle.plain.proofs.Changed.{changed_at}
 use Rattle.scheme.proofs.Histories
 use Rattle.plain.specs.Pools.{link_of}
 use Rattle.plain.specs.Boards.{Board, new_board}
@@ -18,7 +17,7 @@ module _ (m n s : ℕ) where
   no_link x = cond_both (eqb x 0) 0 0 (λ (l : ℕ). l ≡ 0) (λ e. refl) (λ e. refl)
 
   stage_0 : new_stages 0 ≡ 0
-  stage_0 = changed_at {A = ℕ} (λ x. 3) 0 0 0 refl
+  stage_0 = grind arith
 
   fine_new : m ≤ 16 → 0 < s → Fine (new_board m n s) new_stages (λ x. 0)
   fine_new few stamps = record {
@@ -26,7 +25,7 @@ module _ (m n s : ℕ) where
       ordered = record {
         head = stage_0;
         falls = λ x l d. absurd (d (no_link x));
-        down = λ x l. omega (arith, ap new_stages (no_link x));
+        down = λ x l. grind arith;
         single = λ x y kx ky e d. absurd (d (no_link x));
       };
       books = books_new m n s stamps;

@@ -7,7 +7,7 @@ use Rattle.plain.specs.Pools.{Pool, Move, link_of, filled, placed_behind, with_m
 use Rattle.plain.specs.Boards.{Area, Record, with_record}
 use Rattle.plain.proofs.Links.{Ahead, next_at, ahead_ne, ahead_from, ahead_to, ahead_trans, Ordered, Spliced, splice_fwd, splice_back, splice_ordered}
 use Rattle.plain.proofs.Lists.{In, in_cases}
-use Rattle.plain.proofs.Writes.{linked_there, linked_elsewhere, filled_there, filled_elsewhere, filled_key, other_key, filled_stamp, other_stamp, record_stays}
+use Rattle.plain.proofs.Writes.{linked_elsewhere, filled_there, filled_elsewhere, filled_key, other_key, filled_stamp, other_stamp, record_stays}
 use Rattle.plain.proofs.Shape.{Shaped, Somewhere, Moved, Carried, Turned, Owed, listed_stage}
 use Rattle.plain.proofs.Books.{Fills, books_fill}
 
@@ -41,7 +41,7 @@ module _ {size : ℕ} {q : Pool} {stage rank : ℕ → ℕ} (s : Shaped size q s
 
   pub spliced : Spliced (link_of q) (link_of q₁) p y
   spliced = record {
-    at_p = linked_there p (head_or_0 q.free) (filled k (link_of q p) q) ∙ head;
+    at_p = grind arith;
     at_y = linked_elsewhere p (head_or_0 q.free) (filled k (link_of q p) q) y (λ e. live_ne p (omega (arith, kp)) (sym e)) ∙ filled_there k (link_of q p) q y head y_ne;
     rest = λ x n d. linked_elsewhere p (head_or_0 q.free) (filled k (link_of q p) q) x n ∙ filled_elsewhere k (link_of q p) q y head x d;
   }
@@ -106,7 +106,7 @@ module _ {size : ℕ} {q : Pool} {stage rank : ℕ → ℕ} (s : Shaped size q s
     ]
     | inr bx ↦ elim (listed_before az) [
       | inl ez ↦ absurd (new x bx nx (cc (key_old x (old_ne bx), key_new)))
-      | inr bz ↦ s.keys_apart x z bx bz (λ w. ahead_ne bx (w ∙ o)) (λ w. ahead_ne bz (w ∙ o)) (cc (key_old x (old_ne bx), key_old z (old_ne bz)))
+      | inr bz ↦ s.keys_apart x z bx bz (λ w. ahead_ne bx (w ∙ o)) (λ w. ahead_ne bz (w ∙ o)) (grind arith)
     ]
   ]
 

@@ -1,7 +1,7 @@
 -- The chain of nodes ahead of a place, as a list: the node before another, who precedes whom, the first with a key.
 -- The board's own chain, which is followed no further than its size, is the whole chain. Assumes nothing.
 use Rattle.std.proofs.Common.{◌≡◌, ℕ, zero, suc, ◌<◌, ◌≤◌, true, false, cond, eqb, ◌≢◌, ◌⊎◌, List, [], ◌∷◌, length, sym, refl, ap, ◌∙◌, inl, inr, arith}
-use Rattle.std.proofs.lemmas.Bool.{eqb-true, eqb-false, cond_both, eq-eqb, ne_eqb}
+use Rattle.std.proofs.lemmas.Bool.{eqb-true, eqb-false, cond_both, eq-eqb}
 use Rattle.plain.specs.Pools.{reached, holder, before, precedes}
 use Rattle.plain.proofs.Links.{Ahead, ahead_ne, next_at, more_at, ahead_from, Ordered, not_ahead_of_itself, ahead_stage}
 use Rattle.plain.proofs.Lists.{In, in_cases, Apart, few}
@@ -28,7 +28,7 @@ ahead_chain (link e n c) (Ahead.more m a) = In.later (ahead_chain c (ahead_from 
 pub before_links : {lk : ℕ → ℕ} {p x : ℕ} {l : List ℕ} → Chain lk p l → In x l → (lk (before p x l) ≡ x) × ((before p x l ≡ p) ⊎ In (before p x l) l)
 before_links (stop e) m = elim m [ ]
 before_links {lk} {p} {x} (link {y = y} {ys = ys} e n c) m = cond_both (eqb y x) p (before y x ys) (λ b. (lk b ≡ x) × ((b ≡ p) ⊎ In b (y ∷ ys)))
-    (λ q. (e ∙ eqb-true y x q, inl refl))
+    (λ q. (grind arith, inl refl))
     (λ q. elim (in_cases m) [
       | inl w ↦ absurd (eqb-false y x q (sym w))
       | inr i ↦
@@ -100,7 +100,7 @@ module _ (lk : ℕ → ℕ) where
   reached_again (suc f) {p} (stop q) h = rw (eq-eqb (lk p) 0 q)
   reached_again (suc f) {p} (link {y = y} {ys = ys} q n c) h =
       let r = reached_again f c (omega arith) in
-      cc (ne_eqb (lk p) 0 (λ v. n (cc)))
+      grind arith
 
   module _ {stage rank : ℕ → ℕ} (o : Ordered lk stage rank) where
     pub reached_apart : (f p : ℕ) → stage p < 3 → Apart (reached f lk p)
@@ -116,7 +116,7 @@ module _ (lk : ℕ → ℕ) where
     sized_chain size p l b =
         let short = few size (reached_apart (suc size) p l) within in
         elim (full_or_chain (suc size) p) [
-          | inl h ↦ absurd (omega (arith, h))
+          | inl h ↦ absurd (grind arith)
           | inr c ↦ rw (reached_again size c short) c
         ]
       where

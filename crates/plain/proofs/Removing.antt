@@ -55,7 +55,7 @@ module _ {size : ℕ} {q : Pool} {stage rank : ℕ → ℕ} (s : Shaped size q s
     skipped : Skipped (link_of q) (link_of q₁) p
     skipped = record {
       at_p = cc (linked_there p (link_of q x) q, p_links);
-      rest = λ z n. linked_elsewhere p (link_of q x) q z n;
+      rest = λ z n. grind arith;
     }
 
     retires : Retires q q₁ x
@@ -159,11 +159,11 @@ module _ {size : ℕ} {q : Pool} {stage rank : ℕ → ℕ} (s : Shaped size q s
 
     lk_p : (z : ℕ) → z ≡ p → lk z ≡ y
     unfolding lk
-    lk_p z e = changed_at (changed (link_of q) y x) p z y e
+    lk_p z e = grind arith
 
     lk_rest : (z : ℕ) → z ≢ p → z ≢ y → lk z ≡ link_of q z
     unfolding lk
-    lk_rest z n d = changed_elsewhere (changed (link_of q) y x) p z y n ∙ changed_elsewhere (link_of q) y z x d
+    lk_rest z n d = grind arith
 
     put_in : Spliced (link_of q) lk p y
     put_in = record { at_p = lk_p p refl; at_y = lk_y ∙ sym p_links; rest = lk_rest }
@@ -195,7 +195,7 @@ module _ {size : ℕ} {q : Pool} {stage rank : ℕ → ℕ} (s : Shaped size q s
     middle = splice_ordered s.ordered p y put_in kp fresh.0
 
     ky : stage₁ y ≡ 0
-    ky = changed_at stage y y 0 refl
+    ky = grind arith
 
     lk_y_ne : lk y ≢ 0
     lk_y_ne e = ahead_ne xa (sym lk_y ∙ e)
@@ -265,7 +265,7 @@ module _ {size : ℕ} {q : Pool} {stage rank : ℕ → ℕ} (s : Shaped size q s
     lost u l e a = elim (skip_lost middle y then_out ky lk_y_ne (ahead_to (sym lk_y) (into_middle l a))) [
       | inl i ↦ absurd (live_ne u l i)
       | inr o ↦ elim o [
-        | inl b ↦ Carried.replaced y (out_of_middle (λ i. x_ne (sym i)) b) (key_new ∙ sym e)
+        | inl b ↦ Carried.replaced y (out_of_middle (λ i. x_ne (sym i)) b) (grind arith)
         | inr b ↦ Carried.stays (ahead_to lk_y b)
       ]
     ]
@@ -274,10 +274,10 @@ module _ {size : ℕ} {q : Pool} {stage rank : ℕ → ℕ} (s : Shaped size q s
     keys₂ still ex a b aa ab e = elim (back head_live aa) [
       | inl ea ↦ elim (back head_live ab) [
         | inl eb ↦ cc
-        | inr cb ↦ absurd (alone b ab cb (cc (key_new)))
+        | inr cb ↦ absurd (alone b ab cb (grind arith))
       ]
       | inr ca ↦ elim (back head_live ab) [
-        | inl eb ↦ absurd (alone a aa ca (cc (key_new)))
+        | inl eb ↦ absurd (alone a aa ca (grind arith))
         | inr cb ↦ s.keys_apart a b ca cb (no_old ca) (no_old cb) (cc (key_old a (old_ne ca), key_old b (old_ne cb)))
       ]
     ]

@@ -1,6 +1,6 @@
 -- Along every run: the due chain is empty exactly when each removal lies before the start of a wait,
 -- and the due and the covered chain are exactly when each such wait has been found over. So the counts settle. Assumes nothing.
-use Rattle.std.proofs.Common.{◌≡◌, ℕ, ◌↔◌, List, [], ◌∷◌, ◌++◌, length, refl, ap, subst, arith}
+use Rattle.std.proofs.Common.{◌≡◌, ℕ, ◌↔◌, List, [], ◌∷◌, ◌++◌, refl, ap, subst, arith}
 use Rattle.std.proofs.lemmas.List.{nil_from_length}
 use mathlib.Core.Logic.Iff
 use Rattle.scheme.specs.Histories.{Any}
@@ -147,5 +147,5 @@ counts_settle making {b = b} run =
     let all = not_listed_count (state making run).fine.shaped in
     let i = chained making run in (
       (λ e. i.settled.0 (nil_from_length b.pool.due (omega arith), nil_from_length b.pool.covered (omega arith))),
-      (λ s. let p = i.settled.1 s in omega (arith, ap length p.0, ap length p.1)),
+      (λ s. let p = i.settled.1 s in grind arith),
     )

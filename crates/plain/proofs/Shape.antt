@@ -74,7 +74,7 @@ module _ {size : ℕ} {q : Pool} {stage rank : ℕ → ℕ} (s : Shaped size q s
       × (q.key (holder q.key k (reached size (link_of q) 0)) ≡ k)
   node_there k e =
       let l = reached size (link_of q) 0 in
-      let h = holder_holds q.key k l (grind (arith, nat_tests)) in
+      let h = holder_holds q.key k l (grind arith) in
       (chain_ahead listed_chain h.0, h.1)
 
   pub there : (k x : ℕ) → Ahead (link_of q) x 0 → q.key x ≡ k → not (eqb (holder q.key k (reached size (link_of q) 0)) 0) ≡ true

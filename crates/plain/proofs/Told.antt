@@ -1,7 +1,6 @@
 -- What an answer tells of the reader that called: sightings, the end of a walk, its start; and whose place stays at a call.
 -- This is shown once for every call (told). Assumes nothing.
 use Rattle.std.proofs.Common.{◌≡◌, ℕ, Bool, true, false, not, ◌||◌, eqb, ◌≢◌, ◌⊎◌, sym, refl, ap, subst, inl, inr, arith}
-use Rattle.std.proofs.lemmas.Bool.Decides.{nat_tests}
 use Rattle.std.proofs.lemmas.Bool.{cases_eq, eqb-true, eqb-false, cond_both}
 use Rattle.scheme.specs.declared.interface.Poll.{Poll}
 use Rattle.plain.proofs.Changed.{changed_at, changed_elsewhere}
@@ -72,7 +71,7 @@ told_silent b a m silent same = record {
 }
   where
     not_by : (c : Call) → m.call ≡ c → walks c ≡ true → ⊥
-    not_by c e t = cc (ap walks e)
+    not_by c e t = grind arith
 
 -- ---- refused calls
 
@@ -168,7 +167,7 @@ module _ {b : Board} {stage rank : ℕ → ℕ} (f : Fine b stage rank) (a : Are
             let o = only u x t in
             let node : z ≡ x.node = ap (λ (y : Sighting). y.node) o.1 in
             subst (λ (v : ℕ). (link_of b.pool (b.slots v).place ≡ x.node) × (((with_slot r s b).slots v).place ≡ x.node)) o.0
-            (node, cc (slot_there r s));
+            (node, grind arith);
         ends = λ u t. absurd (not_end t.1);
         begins = λ u t. cc;
         keeps = λ u iu ns nl ne' no_step. slot_else r u s (λ e. no_step x₀ (rw e on));
@@ -226,7 +225,7 @@ module _ {b : Board} {stage rank : ℕ → ℕ} (f : Fine b stage rank) (a : Are
       found_there : {u : ℕ} {y : Sighting} → b.who.inside r ≡ true → x ≢ 0 → Sights u y (moment (Call.aside r k) (unchanged b a (Answer.found_aside x (b.pool.stamp x) k (record_at a x)))) → Beholds b a u y
       found_there i n (Sights.by_step t) = cc (steps_call t)
       found_there {u} {y} i n (Sights.by_aside w n' s l v e q is) =
-          let there = node_there f.shaped k (grind (arith, nat_tests)) in
+          let there = node_there f.shaped k (grind arith) in
           let by : r ≡ u = cc in
           let same : sighting x (b.pool.stamp x) k a ≡ y = cc in
           rw by at (subst (λ (o : Sighting). Beholds b a r o) same

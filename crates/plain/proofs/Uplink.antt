@@ -1,7 +1,6 @@
 -- Each accepted put, swap, cut, move, finish and step keeps what holds of every board.
 -- So does every call, accepted or refused (follows). Assumes nothing.
 use Rattle.std.proofs.Common.{◌≡◌, ℕ, ◌<◌, Bool, true, false, cond, not, ◌&&◌, eqb, ◌≢◌, ◌⊎◌, ◌∷◌, ℤ, sym, refl, ap, ◌∙◌, inl, inr, arith}
-use Rattle.std.proofs.lemmas.Bool.Decides.{nat_tests}
 use Rattle.std.proofs.lemmas.Bool.{cases_eq, ne_eqb, eqb-false, cond_both, or_parts}
 use Rattle.record.specs.Making.{Making}
 use Rattle.plain.specs.Pools.{Pool, Move, Need, link_of, precedes, old_of, under_way, lacks_wait, with_move, placed_behind, unlinked, before, head_or_0, tail}
@@ -13,7 +12,7 @@ use Rattle.plain.specs.History.{moment}
 use Rattle.plain.proofs.Links.{Ahead, ahead_ne, ahead_trans, ahead_from, ahead_to}
 use Rattle.plain.proofs.Reached.{precedes_ahead, ahead_chain}
 use Rattle.plain.proofs.Shape.{Shaped, Two, Moved, Carried, Owed, Guarded, listed_stage, listed_chain, node_there, not_there}
-use Rattle.plain.proofs.Placing.{placing, still_ahead, behind_p, new_listed, key_new, key_old, old_ne}
+use Rattle.plain.proofs.Placing.{placing, still_ahead, behind_p, new_listed, old_ne}
 use Rattle.plain.proofs.Removing.{removing, swapping, not_listed, was_ahead}
 use Rattle.plain.proofs.Removing
 use Rattle.plain.proofs.Checks.{Passed, checked_both, not_empty, no_move}
@@ -31,8 +30,8 @@ module _ {b : Board} {stage rank : ℕ → ℕ} (f : Fine b stage rank) (a : Are
 
   after_there : (k : ℕ) → (not (eqb k 0) && not (is_listed b k)) ≡ false → (after b k ≡ 0) ⊎ Ahead lk (after b k) 0
   after_there k e = elim (cases_eq k 0) [
-    | inl z ↦ inl (grind (arith, nat_tests))
-    | inr n ↦ inr (rw (ne_eqb k 0 n) (node_there s k (grind (arith, nat_tests))).0)
+    | inl z ↦ inl (grind arith)
+    | inr n ↦ inr (rw (ne_eqb k 0 n) (node_there s k (grind arith)).0)
   ]
 
   no_old : q.move ≡ Move.none → {x : ℕ} → Ahead lk x 0 → x ≢ old_of q.move
@@ -97,7 +96,7 @@ module _ {b : Board} {stage rank : ℕ → ℕ} (f : Fine b stage rank) (a : Are
         old = still_ahead s k (after b h) new (tail q.free) free there the_move (omega arith) listed_old;
         copy = new_listed s k (after b h) new (tail q.free) free there the_move;
         differ = old_ne s k (after b h) new (tail q.free) free there the_move listed_old;
-        alike = cc (key_new s k (after b h) new (tail q.free) free there the_move, key_old s k (after b h) new (tail q.free) free there the_move old (old_ne s k (after b h) new (tail q.free) free there the_move listed_old));
+        alike = grind arith;
       }
 
       -- a move that is not earlier puts the copy behind the old node
@@ -192,7 +191,7 @@ module _ {b : Board} {stage rank : ℕ → ℕ} (f : Fine b stage rank) (a : Are
   -- ---- every call
 
   follows_accepted : (c : Call) → Passed (checks making b a c) → Follows b a stage (moment c (accepted making b a c))
-  follows_accepted (Call.enter r) passed = reader_enters f a making r (grind (arith, nat_tests)) passed.1.0
+  follows_accepted (Call.enter r) passed = reader_enters f a making r (grind arith) passed.1.0
   follows_accepted (Call.leave r) passed = reader_leaves f a making r (grind arith)
   follows_accepted (Call.step r) passed = steps r passed
   follows_accepted (Call.look r) passed = follows_same f a (Call.look r) _

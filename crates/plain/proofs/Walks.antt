@@ -83,7 +83,7 @@ module _ {b : Board} {a : Area} {stage rank : ℕ → ℕ} {m : Moment} (f : Fin
             way = rw d.1 (way_goes n.fine r m w (b.slots r).place x.node u.trodden e o.0.ne ((n.turned r u.inside nl).guards (b.slots r).place (f.rests r u.inside)) (record { sighting = x; on = on; key = k }) stayed);
             count = λ j c.
                 let s = count_older c in
-                omega (arith, u.count s.0 s.1);
+                grind arith;
           }
 
   -- ---- the last step of a walk

@@ -98,7 +98,7 @@ module _ {b : Board} {a : Area} {stage rank : ℕ → ℕ} {m : Moment} (f : Fin
     live = λ x j. let l = y.live x j in (l.0, u.guards x l.1);
     clear = λ x j c. elim (u.back p x g.live c) [
       | inl d ↦ y.clear x j d
-      | inr d ↦ omega (arith, (y.live x j).1.live, d.0)
+      | inr d ↦ grind arith
     ];
     honest = λ z c. elim (u.back p z g.live c) [
       | inl d ↦ Any.there (rw (ahead_key z d) (y.honest z d))

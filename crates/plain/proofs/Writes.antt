@@ -1,6 +1,5 @@
 -- The links of a pool after one is written, and after a node is filled. Another node's record stays. Assumes nothing.
 use Rattle.std.proofs.Common.{◌≡◌, ℕ, ◌-◌, ◌≢◌, [], arith, get_or-set_other}
-use Rattle.std.proofs.lemmas.Bool.Decides.{nat_tests}
 use Rattle.plain.specs.Pools.{Pool, link_of, link_to, filled, head_or_0}
 use Rattle.plain.specs.Boards.{Area, Record, record_at, with_record}
 
@@ -8,31 +7,31 @@ use Rattle.plain.specs.Boards.{Area, Record, record_at, with_record}
 
 module _ (p v : ℕ) (q : Pool) where
   pub linked_there : link_of (link_to p v q) p ≡ v
-  linked_there = grind (arith, nat_tests)
+  linked_there = grind arith
 
   pub linked_elsewhere : (x : ℕ) → x ≢ p → link_of (link_to p v q) x ≡ link_of q x
-  linked_elsewhere x d = grind (arith, nat_tests)
+  linked_elsewhere x d = grind arith
 
 -- ---- the first free node is filled
 
 module _ (k v : ℕ) (q : Pool) (y : ℕ) (is : head_or_0 q.free ≡ y) where
   pub filled_there : y ≢ 0 → link_of (filled k v q) y ≡ v
-  filled_there n = grind (arith, nat_tests)
+  filled_there n = grind arith
 
   pub filled_elsewhere : (x : ℕ) → x ≢ y → link_of (filled k v q) x ≡ link_of q x
-  filled_elsewhere x d = grind (arith, nat_tests)
+  filled_elsewhere x d = grind arith
 
   pub filled_key : (filled k v q).key y ≡ k
-  filled_key = grind (arith, nat_tests)
+  filled_key = grind arith
 
   pub other_key : (x : ℕ) → x ≢ y → (filled k v q).key x ≡ q.key x
-  other_key x d = grind (arith, nat_tests)
+  other_key x d = grind arith
 
   pub filled_stamp : (filled k v q).stamp y ≡ q.next_stamp
-  filled_stamp = grind (arith, nat_tests)
+  filled_stamp = grind arith
 
   pub other_stamp : (x : ℕ) → x ≢ y → (filled k v q).stamp x ≡ q.stamp x
-  other_stamp x d = grind (arith, nat_tests)
+  other_stamp x d = grind arith
 
 -- ---- another node's record stays
 
