@@ -1,20 +1,12 @@
 -- A wait begins, and is found over:
 -- the pool is sound again, and a reader that was not awaited stands on no node that is freed. Assumes nothing.
 use Rattle.std.proofs.Common.{◌≡◌, ℕ, Bool, true, false, ◌≢◌, [], refl, inl, arith}
-use Rattle.plain.specs.Pools.{Pool, Move, Need, covering, freeing, at_begin, at_over, old_of}
+use Rattle.plain.specs.Pools.{Pool, Move, Need, covering, freeing, at_begin, at_over}
 use Rattle.plain.specs.Boards.{Area}
 use Rattle.plain.proofs.Links.{raised, raised_cases, raised_ordered}
 use Rattle.plain.proofs.Lists.{in_left, in_right}
 use Rattle.plain.proofs.Shape.{Shaped, Somewhere, Moved, Carried, Turned, Owed}
 use Rattle.plain.proofs.Books.{books_begin, books_over}
-
-old_at_begin : (m : Move) → old_of (at_begin m) ≡ old_of m
-old_at_begin (Move.earlier o c Need.lacking) = refl
-old_at_begin m = refl
-
-old_at_over : (m : Move) → old_of (at_over m) ≡ old_of m
-old_at_over (Move.earlier o c Need.begun) = refl
-old_at_over m = refl
 
 moved_begin : (q : Pool) (m : Move) → Moved q m → Moved (covering q) (at_begin m)
 moved_begin q (Move.earlier o c Need.lacking) t = t
