@@ -39,8 +39,8 @@ module _ {size : ℕ} {q q' : Pool} {stage : ℕ → ℕ} {y : ℕ} (k : Books s
     in_due = λ x i. let r = k.in_due x (rw f.due at i) in changed_elsewhere stage y x 0 (not_fresh x (omega arith)) ∙ r;
     in_covered = λ x i. let r = k.in_covered x (rw f.covered at i) in changed_elsewhere stage y x 0 (not_fresh x (omega arith)) ∙ r;
     apart_free = apart_tail free_apart;
-    apart_due = rw f.due k.apart_due;
-    apart_covered = rw f.covered k.apart_covered;
+    apart_due = grind arith;
+    apart_covered = grind arith;
     stamps_below = below;
     stamps_apart = apart;
   }
@@ -49,29 +49,13 @@ module _ {size : ℕ} {q q' : Pool} {stage : ℕ → ℕ} {y : ℕ} (k : Books s
       not_fresh x l e = omega (arith, fresh.0, ap stage e)
 
       below : (x : ℕ) → q'.stamp x < q'.next_stamp
-      below x =
-          elim (cases_eq x y) [
-            | inl e ↦ grind arith
-            | inr e ↦ omega arith
-          ]
+      below x = grind arith
 
       new_alone : (x : ℕ) → x ≢ y → q'.stamp x ≢ q.next_stamp
       new_alone x n e = omega arith
 
       apart : (x z : ℕ) → x ≢ 0 → z ≢ 0 → changed stage y 0 x < 3 → changed stage y 0 z < 3 → q'.stamp x ≡ q'.stamp z → x ≡ z
-      apart x z nx nz lx lz e = elim (cases_eq x y) [
-        | inl p ↦ elim (cases_eq z y) [
-          | inl r ↦ cc
-          | inr r ↦ absurd (new_alone z r (cc))
-        ]
-        | inr p ↦ elim (cases_eq z y) [
-          | inl r ↦ absurd (new_alone x p (cc))
-          | inr r ↦
-              let ex = changed_elsewhere stage y x 0 p in
-              let ez = changed_elsewhere stage y z 0 r in
-              k.stamps_apart x z nx nz (omega arith) (omega arith) (grind arith)
-        ]
-      ]
+      apart x z nx nz lx lz e = grind arith
 
 -- the listed node x is removed
 pub record Retires (q q' : Pool) (x : ℕ) : Type 0 where
@@ -84,47 +68,44 @@ pub record Retires (q q' : Pool) (x : ℕ) : Type 0 where
 module _ {size : ℕ} {q q' : Pool} {stage : ℕ → ℕ} {x : ℕ} (k : Books size q stage) (f : Retires q q' x) (kx : stage x ≡ 0) where
   pub books_retire : Books size q' (changed stage x 1)
   books_retire = record {
-    bounded = λ z l. k.bounded z (live z l);
-    in_free = λ z i. let r = k.in_free z (rw f.free at i) in (grind arith, r.1);
+    bounded = λ z l. grind arith;
+    in_free = λ z i. grind arith;
     in_due = λ z i. elim (in_cases (rw f.due at i)) [
       | inl e ↦ grind arith
       | inr j ↦ let r = k.in_due z j in grind arith
     ];
-    in_covered = λ z i. let r = k.in_covered z (rw f.covered at i) in grind arith;
-    apart_free = rw f.free k.apart_free;
+    in_covered = λ z i. grind arith;
+    apart_free = grind arith;
     apart_due = rw f.due (Apart.one_more (λ (i : In x q.due). grind arith) k.apart_due);
-    apart_covered = rw f.covered k.apart_covered;
+    apart_covered = grind arith;
     stamps_below = λ z. grind arith;
-    stamps_apart = λ u v nu nv lu lv e. k.stamps_apart u v nu nv (live u lu) (live v lv) (grind arith);
+    stamps_apart = λ u v nu nv lu lv e. grind arith;
   }
     where
       other : (z : ℕ) → stage z ≢ 0 → changed stage x 1 z ≡ stage z
       other z n = grind arith
 
       live : (z : ℕ) → changed stage x 1 z < 3 → stage z < 3
-      live z l = elim (cases_eq z x) [
-        | inl e ↦ grind arith
-        | inr n ↦ grind arith
-      ]
+      live z l = grind arith
 
 -- ---- waits
 
 pub books_begin : {size : ℕ} {q : Pool} {stage : ℕ → ℕ} → Books size q stage → Books size (covering q) (λ x. raised 1 (stage x))
 books_begin {stage = stage} k = record {
-  bounded = λ x l. k.bounded x (grind arith);
-  in_free = λ x i. let r = k.in_free x i in (grind arith, r.1);
+  bounded = λ x l. grind arith;
+  in_free = λ x i. grind arith;
   in_due = λ x i. elim i [ ];
   in_covered = λ x i. grind arith;
   apart_free = k.apart_free;
   apart_due = Apart.nothing;
   apart_covered = k.apart_due;
   stamps_below = k.stamps_below;
-  stamps_apart = λ u v nu nv lu lv e. k.stamps_apart u v nu nv (grind arith) (grind arith) e;
+  stamps_apart = λ u v nu nv lu lv e. grind arith;
 }
 
 pub books_over : {size : ℕ} {q : Pool} {stage : ℕ → ℕ} → Books size q stage → Books size (freeing q) (λ x. raised 2 (stage x))
 books_over {q = q} {stage = stage} k = record {
-  bounded = λ x l. k.bounded x (grind arith);
+  bounded = λ x l. grind arith;
   in_free = λ x i. elim (in_append q.covered i) [
     | inl j ↦ (grind arith, k.bounded x (grind arith))
     | inr j ↦ let r = k.in_free x j in (grind arith, r.1)
@@ -135,7 +116,7 @@ books_over {q = q} {stage = stage} k = record {
   apart_due = k.apart_due;
   apart_covered = Apart.nothing;
   stamps_below = k.stamps_below;
-  stamps_apart = λ u v nu nv lu lv e. k.stamps_apart u v nu nv (grind arith) (grind arith) e;
+  stamps_apart = λ u v nu nv lu lv e. grind arith;
 }
 
 -- ---- a new board
@@ -149,7 +130,7 @@ new_free x n = grind arith
 
 pub books_new : (m n s : ℕ) → 0 < s → Books n (new_board m n s).pool new_stages
 books_new m n s h = record {
-  bounded = λ x l. elim (cases_eq x 0) [ inl e ↦ omega arith | inr e ↦ absurd (grind arith) ];
+  bounded = λ x l. grind arith;
   in_free = λ x i. let r = in_upto 1 n i in (new_free x (omega arith), omega arith);
   in_due = λ x i. elim i [ ];
   in_covered = λ x i. elim i [ ];
@@ -157,5 +138,5 @@ books_new m n s h = record {
   apart_due = Apart.nothing;
   apart_covered = Apart.nothing;
   stamps_below = λ x. h;
-  stamps_apart = λ u v nu nv lu lv e. absurd (grind arith);
+  stamps_apart = λ u v nu nv lu lv e. grind arith;
 }

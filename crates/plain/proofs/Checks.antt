@@ -1,9 +1,9 @@
 -- What the passing of a call's checks says, check by check; what an accepted making says of the new board. Assumes nothing.
-use Rattle.std.proofs.Common.{◌≡◌, ℕ, ◌<◌, ◌≤◌, false, ◌⊎◌, List, [], ◌∷◌, refl, inl, inr, arith}
+use Rattle.std.proofs.Common.{◌≡◌, ℕ, ◌<◌, ◌≤◌, false, List, [], ◌∷◌, refl, inl, arith}
 use Rattle.std.proofs.lemmas.Bool.{cond_both}
 use Rattle.plain.specs.Pools.{is_empty, head_or_0, tail, Move, under_way}
 use Rattle.plain.specs.Boards.{Board, new_board}
-use Rattle.plain.specs.Refusals.{Check, checked, making_checks}
+use Rattle.plain.specs.Refusals.{Check, checked}
 use Rattle.plain.specs.Plain.{make}
 
 -- ---- all checks passed, or one refused
@@ -31,7 +31,4 @@ no_move m e = cc
 -- ---- a board was made
 
 pub made_of : (m n s : ℕ) {b : Board} → make m n s ≡ inl b → (new_board m n s ≡ b) × (m ≤ 16) × (0 < s)
-made_of m n s {b} = checked_both (making_checks m n s) (inl (new_board m n s)) (λ number field. inr number)
-    (λ (v : Board ⊎ ℕ). v ≡ inl b → (new_board m n s ≡ b) × (m ≤ 16) × (0 < s))
-    (λ cs q. (cc, grind arith, grind arith))
-    (λ number field q. cc)
+made_of m n s {b} = grind arith

@@ -1,6 +1,6 @@
 -- What each call does as far as visits, removals and waits go: to the scheme's meaning, and to the due and the covered chain (did).
 -- It is told in the scheme's own words, by a call of the scheme. Assumes nothing.
-use Rattle.std.proofs.Common.{◌≡◌, ℕ, Bool, true, false, not, ◌||◌, eqb, ◌↔◌, List, [], ◌∷◌, refl, ap, ◌∙◌, arith}
+use Rattle.std.proofs.Common.{◌≡◌, ℕ, Bool, true, false, not, ◌||◌, eqb, ◌↔◌, List, [], ◌∷◌, refl, ap, arith}
 use Rattle.std.proofs.lemmas.Bool.{cond_both}
 use Rattle.scheme.specs.declared.interface.Poll.{Poll}
 use Rattle.scheme.specs.declared.interface.Poll.TheVariants.{NoWait, NotYet, Over}
@@ -23,7 +23,7 @@ use Rattle.plain.specs.History.{Moment, moment}
 use Rattle.plain.specs.Sightings.{Enters, Leaves}
 use Rattle.plain.specs.Waits.{Removes, Begins, FindsOver}
 use Rattle.plain.proofs.Checks.{Passed, checked_both}
-use Rattle.plain.proofs.Follows.{Fine, poll_cases}
+use Rattle.plain.proofs.Follows.{Fine}
 
 -- no visit and no wait starts or ends by the moment
 pub record Silent (m : Moment) : Type 0 where
@@ -80,10 +80,10 @@ removing c = false
 not_told : {b : Board} {m : Moment} → telling m.call ≡ false → m.board.who ≡ b.who → NotTold b m
 not_told {b} {m} quiet who = record {
   silent = record {
-    no_enter = λ r e. not_by (Call.enter r) refl e.0;
-    no_leave = λ r e. not_by (Call.leave r) refl e.0;
-    no_begin = λ e. not_by Call.tend refl e.0;
-    no_over = λ e. not_by Call.tend refl e.asked;
+    no_enter = λ r e. grind arith;
+    no_leave = λ r e. grind arith;
+    no_begin = λ e. grind arith;
+    no_over = λ e. grind arith;
   };
   who = who;
 }
@@ -118,35 +118,35 @@ did_refused b a c n k = Did.nothing (record { silent = silent; who = refl }) (re
 
 enter_echoes : {r : ℕ} {d : Board} {a : Area} → Echoes (record { call = Call.enter r; answer = Answer.done; board = d; area = a }) (below.moment (Enter r) Accepted)
 enter_echoes = record {
-  enters = λ u. ((λ e. cc), (λ e. (cc, refl)));
-  leaves = λ u. ((λ e. cc), (λ e. cc));
-  begins = ((λ e. cc), (λ e. cc));
-  overs = ((λ e. cc), (λ e. cc));
+  enters = λ u. grind arith;
+  leaves = λ u. grind arith;
+  begins = grind arith;
+  overs = grind arith;
 }
 
 leave_echoes : {r : ℕ} {d : Board} {a : Area} → Echoes (record { call = Call.leave r; answer = Answer.done; board = d; area = a }) (below.moment (Leave r) Accepted)
 leave_echoes = record {
-  enters = λ u. ((λ e. cc), (λ e. cc));
-  leaves = λ u. ((λ e. cc), (λ e. (cc, refl)));
-  begins = ((λ e. cc), (λ e. cc));
-  overs = ((λ e. cc), (λ e. cc));
+  enters = λ u. grind arith;
+  leaves = λ u. grind arith;
+  begins = grind arith;
+  overs = grind arith;
 }
 
 -- ---- waits
 
 begin_echoes : {d : Board} {a : Area} → Echoes (record { call = Call.tend; answer = Answer.begun; board = d; area = a }) (below.moment Begin Accepted)
 begin_echoes = record {
-  enters = λ u. ((λ e. cc), (λ e. cc));
-  leaves = λ u. ((λ e. cc), (λ e. cc));
-  begins = ((λ e. refl), (λ e. (refl, refl)));
-  overs = ((λ e. cc), (λ e. cc));
+  enters = λ u. grind arith;
+  leaves = λ u. grind arith;
+  begins = grind arith;
+  overs = grind arith;
 }
 
 over_echoes : {n : ℕ} {d : Board} {a : Area} → Echoes (record { call = Call.tend; answer = Answer.over n; board = d; area = a }) (below.moment Ask (Polled Over))
 over_echoes {n} = record {
-  enters = λ u. ((λ e. cc), (λ e. cc));
-  leaves = λ u. ((λ e. cc), (λ e. cc));
-  begins = ((λ e. cc), (λ e. cc));
+  enters = λ u. grind arith;
+  leaves = λ u. grind arith;
+  begins = grind arith;
   overs = ((λ e. refl), (λ e. record { count = n; asked = refl; said = refl }));
 }
 
@@ -156,7 +156,7 @@ tend_silent w nb no_over = record {
   no_enter = λ r e. cc;
   no_leave = λ r e. cc;
   no_begin = λ e. nb e.1;
-  no_over = λ e. no_over e.count e.said;
+  no_over = λ e. grind arith;
 }
 
 module _ {b : Board} {stage rank : ℕ → ℕ} (f : Fine b stage rank) (a : Area) (making : Making) where
@@ -171,7 +171,7 @@ module _ {b : Board} {stage rank : ℕ → ℕ} (f : Fine b stage rank) (a : Are
   tend_did Over e shut = Did.wait_ends (record { echoes = answered over_echoes (ap Polled e); who = refl }) (record { count = _; asked = refl; said = refl }) (record { due = refl; covered = refl })
 
   no_wait : (said : Poll) → (on_poll b.who).answer ≡ said → said ≡ NoWait → b.who.waits ≡ false
-  no_wait said e n = poll_cases b.who (λ (p : Poll). p ≡ NoWait → b.who.waits ≡ false) (λ w q. w) (λ w g q. cc) (λ w g q. cc) (e ∙ n)
+  no_wait said e n = grind arith
 
   -- a call of which the scheme is not told, and that removes nothing
   quiet : (c : Call) (res : Result) → telling c ≡ false → removing c ≡ false → res.board.who ≡ b.who → res.board.pool.due ≡ b.pool.due → res.board.pool.covered ≡ b.pool.covered → Did b (moment c res)

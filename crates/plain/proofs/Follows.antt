@@ -9,7 +9,7 @@ use Rattle.scheme.specs.Polls.{on_poll}
 use Rattle.scheme.specs.Sets.{none_in}
 use Rattle.plain.proofs.Changed.{changed_at, changed_elsewhere}
 use Rattle.scheme.proofs.Polls.{known_awaited}
-use Rattle.scheme.proofs.Histories.{enter_sound, leave_sound, begin_sound, poll_sound}
+use Rattle.scheme.proofs.Histories.{enter_sound, leave_sound}
 use Rattle.record.specs.Making.{Making}
 use Rattle.plain.specs.Pools.{Pool, is_empty, needs_begin, covering, freeing}
 use Rattle.plain.specs.Boards.{Board, Area, Slot, at_rest, with_pool, with_slot, with_who}
@@ -20,7 +20,7 @@ use Rattle.plain.specs.Sightings.{Leaves}
 use Rattle.plain.proofs.Links.{raised}
 use Rattle.plain.proofs.Shape.{Shaped, Guarded, Turned}
 use Rattle.plain.proofs.Placing.{Turn}
-use Rattle.plain.proofs.Grace.{begin_shaped, begin_turned, over_shaped, over_turned, quiet_turned}
+use Rattle.plain.proofs.Grace.{begin_shaped, over_shaped, over_turned}
 
 pub record Fine (b : Board) (stage rank : ℕ → ℕ) : Type 0 where
   pub shaped : Shaped b.size b.pool stage rank
@@ -47,7 +47,7 @@ module _ {b : Board} {stage rank : ℕ → ℕ} (f : Fine b stage rank) (a : Are
     fine = f;
     sized = refl;
     stays = λ r i n. i;
-    turned = λ r i n. quiet_turned f.shaped a (b.who.awaited r) (b.who.awaited r) refl;
+    turned = λ r i n. grind arith;
   }
 
   -- the uplink changes the list
@@ -84,7 +84,7 @@ module _ {b : Board} {stage rank : ℕ → ℕ} (f : Fine b stage rank) (a : Are
     };
     sized = refl;
     stays = λ u i n. i;
-    turned = λ u i n. quiet_turned f.shaped a (b.who.awaited u) (b.who.awaited u) refl;
+    turned = λ u i n. grind arith;
   }
 
   pub at_head : (aw : Bool) → Guarded stage aw 0
@@ -114,7 +114,7 @@ module _ {b : Board} {stage rank : ℕ → ℕ} (f : Fine b stage rank) (a : Are
     };
     sized = refl;
     stays = λ u i n. grind arith;
-    turned = λ u i n. quiet_turned f.shaped a (b.who.awaited u) (w.awaited u) (same u (other u i n)).1;
+    turned = λ u i n. grind arith;
   }
 
   pub reader_enters : (making : Making) (r : ℕ) → r < b.readers → b.who.inside r ≡ false → Follows b a stage (moment (Call.enter r) (accepted making b a (Call.enter r)))
@@ -143,14 +143,14 @@ module _ {b : Board} {stage rank : ℕ → ℕ} (f : Fine b stage rank) (a : Are
     rank' = rank;
     fine = record {
       shaped = begin_shaped f.shaped (f.idle e);
-      sound = rw begun_now at (begin_sound b.who f.sound);
+      sound = grind arith;
       few = f.few;
-      rests = λ u i. (begin_turned f.shaped a (b.who.awaited u) (b.who.inside u) i).guards (b.slots u).place (f.rests u i);
+      rests = λ u i. grind arith;
       idle = λ w. cc;
     };
     sized = refl;
     stays = λ u i n. i;
-    turned = λ u i n. begin_turned f.shaped a (b.who.awaited u) (b.who.inside u) i;
+    turned = λ u i n. grind arith;
   })
     where
       begun_now : (on_begin b.who).next ≡ begun b.who
@@ -162,7 +162,7 @@ module _ {b : Board} {stage rank : ℕ → ℕ} (f : Fine b stage rank) (a : Are
     rank' = rank;
     fine = record {
       shaped = over_shaped f.shaped;
-      sound = rw closed_now at (poll_sound b.who f.sound);
+      sound = grind arith;
       few = f.few;
       rests = λ u i. (over_turned f.shaped a (b.who.awaited u) false (gone u)).guards (b.slots u).place (f.rests u i);
       idle = λ v. refl;

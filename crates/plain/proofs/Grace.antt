@@ -3,7 +3,7 @@
 use Rattle.std.proofs.Common.{◌≡◌, ℕ, Bool, true, false, ◌≢◌, [], refl, inl, arith}
 use Rattle.plain.specs.Pools.{Pool, Move, Need, covering, freeing, at_begin, at_over}
 use Rattle.plain.specs.Boards.{Area}
-use Rattle.plain.proofs.Links.{raised, raised_cases, raised_ordered}
+use Rattle.plain.proofs.Links.{raised, raised_cases}
 use Rattle.plain.proofs.Lists.{in_left, in_right}
 use Rattle.plain.proofs.Shape.{Shaped, Somewhere, Moved, Carried, Turned, Owed}
 use Rattle.plain.proofs.Books.{books_begin, books_over}
@@ -40,19 +40,19 @@ module _ {size : ℕ} {q : Pool} {stage rank : ℕ → ℕ} (s : Shaped size q s
 
   pub begin_shaped : q.covered ≡ [] → Shaped size (covering q) (λ x. raised 1 (stage x)) rank
   begin_shaped e = record {
-    ordered = raised_ordered 1 (omega arith) (omega arith) s.ordered;
+    ordered = grind arith;
     books = books_begin s.books;
     keys_apart = λ x y ax ay nx ny k. s.keys_apart x y ax ay (λ w. nx (grind arith)) (λ w. ny (grind arith)) k;
-    moved = moved_begin q q.move s.moved;
-    somewhere = λ x n l. begun_somewhere e x (s.somewhere x n l);
+    moved = grind arith;
+    somewhere = λ x n l. grind arith;
   }
 
   pub over_shaped : Shaped size (freeing q) (λ x. raised 2 (stage x)) rank
   over_shaped = record {
-    ordered = raised_ordered 2 (omega arith) (omega arith) s.ordered;
+    ordered = grind arith;
     books = books_over s.books;
     keys_apart = λ x y ax ay nx ny e. s.keys_apart x y ax ay (λ w. nx (grind arith)) (λ w. ny (grind arith)) e;
-    moved = moved_over q q.move s.moved;
+    moved = grind arith;
     somewhere = λ x n l. over_somewhere x (s.somewhere x n l);
   }
 
@@ -63,7 +63,7 @@ module _ {size : ℕ} {q : Pool} {stage rank : ℕ → ℕ} (s : Shaped size q s
     guards = λ x g. record { live = grind arith; waits = λ w. e };
     back = λ x z l b. inl b;
     fwd = λ x z l b. Carried.stays b;
-    owed = λ c w. (owed_begin q.move aw aw' c e w, λ x b. b);
+    owed = λ c w. grind arith;
   }
 
   -- a wait is found over, and the reader is not awaited
@@ -77,7 +77,7 @@ module _ {size : ℕ} {q : Pool} {stage rank : ℕ → ℕ} (s : Shaped size q s
         record { live = omega arith; waits = λ w. absurd (omega arith) };
     back = λ x z l b. inl b;
     fwd = λ x z l b. Carried.stays b;
-    owed = λ c w. (owed_over q.move aw aw' c e w, λ x b. b);
+    owed = λ c w. grind arith;
   }
 
   -- nothing of the pool changes
@@ -87,5 +87,5 @@ module _ {size : ℕ} {q : Pool} {stage rank : ℕ → ℕ} (s : Shaped size q s
     guards = λ x g. record { live = g.live; waits = λ w. grind arith };
     back = λ x z l b. inl b;
     fwd = λ x z l b. Carried.stays b;
-    owed = λ c w. (rw e at w, λ x b. b);
+    owed = λ c w. grind arith;
   }

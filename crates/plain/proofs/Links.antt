@@ -48,12 +48,12 @@ pub record Ordered (lk stage rank : ℕ → ℕ) : Type 0 where
 
 module _ {lk stage rank : ℕ → ℕ} (o : Ordered lk stage rank) where
   pub ahead_stage : {z x : ℕ} → stage x < 3 → Ahead lk z x → stage z ≤ stage x
-  ahead_stage {z} {x} l (next n e) = rw e at (o.down x l)
+  ahead_stage {z} {x} l (next n e) = grind arith
   ahead_stage {z} {x} l (more n a) =
       omega (arith, ahead_stage (omega arith) a)
 
   pub ahead_rank : {z x : ℕ} → stage x < 3 → Ahead lk z x → rank z < rank x
-  ahead_rank {z} {x} l (next n e) = rw e at (o.falls x l n)
+  ahead_rank {z} {x} l (next n e) = grind arith
   ahead_rank {z} {x} l (more n a) =
       omega (arith, ahead_rank (omega arith) a)
 

@@ -1,7 +1,7 @@
 -- Lists of numbers: what is in one, and lists whose numbers are apart.
 -- Of the numbers 1 to n, a list of some of them that are apart leaves out n less its length. Assumes nothing.
 use Rattle.std.proofs.Common.{◌≡◌, ℕ, zero, suc, ◌+◌, ◌<◌, ◌≤◌, Bool, true, false, not, ◌||◌, eqb, ltb, ◌⊎◌, List, [], ◌∷◌, ◌++◌, length, refl, ap, inl, inr, arith}
-use Rattle.std.proofs.lemmas.Bool.{cases_eq, eqb-true, eq-eqb, or_cases, or_left, or_right, lt-ltb, false_from_ne_true}
+use Rattle.std.proofs.lemmas.Bool.{cases_eq, eqb-true, or_cases, or_right, lt-ltb, false_from_ne_true}
 use Rattle.scheme.specs.Counts.{one, count_below}
 use Rattle.plain.specs.Pools.{upto}
 use Rattle.plain.specs.Waits.{has}
@@ -48,7 +48,7 @@ apart_append (one_more {x = x} {xs = xs} n a) b d =
 
 pub in_upto : {x : ℕ} (i k : ℕ) → In x (upto i k) → (i ≤ x) × (x < i + k)
 in_upto i zero m = elim m [ ]
-in_upto i (suc k) (first e) = (omega arith, omega arith)
+in_upto i (suc k) (first e) = grind arith
 in_upto i (suc k) (later m) = let q = in_upto (suc i) k m in (omega arith, omega arith)
 
 pub upto_in : {x : ℕ} (i k : ℕ) → i ≤ x → x < i + k → In x (upto i k)
@@ -69,7 +69,7 @@ has_in [] t = cc
 has_in (y ∷ ys) {x} t = elim (or_cases (eqb x y) (has ys x) t) [ inl e ↦ first (eqb-true x y e) | inr h ↦ later (has_in ys h) ]
 
 in_has : {x : ℕ} {xs : List ℕ} → In x xs → has xs x ≡ true
-in_has {x} (first {y = y} {ys = ys} e) = or_left (eqb x y) (has ys x) (eq-eqb x y e)
+in_has {x} (first {y = y} {ys = ys} e) = grind arith
 in_has {x} (later {y = y} {ys = ys} i) = or_right (eqb x y) (has ys x) (in_has i)
 
 has_not : (xs : List ℕ) (x : ℕ) → ¬ (In x xs) → has xs x ≡ false

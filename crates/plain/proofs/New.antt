@@ -1,11 +1,8 @@
 -- What holds of every board holds of a new one, and a board that was made is a new one. Assumes nothing.
-use Rattle.std.proofs.Common.{◌≡◌, ℕ, ◌<◌, ◌≤◌, eqb, refl, inl, arith}
-use Rattle.std.proofs.lemmas.Bool.{cond_both}
-use Rattle.scheme.proofs.Histories
+use Rattle.std.proofs.Common.{◌≡◌, ℕ, ◌<◌, ◌≤◌, refl, inl, arith}
 use Rattle.plain.specs.Pools.{link_of}
 use Rattle.plain.specs.Boards.{Board, new_board}
 use Rattle.plain.specs.Plain.{make}
-use Rattle.plain.proofs.Links.{ahead_link}
 use Rattle.plain.proofs.Lists.{upto_in}
 use Rattle.plain.proofs.Checks.{made_of}
 use Rattle.plain.proofs.Shape.{Somewhere}
@@ -14,7 +11,7 @@ use Rattle.plain.proofs.Follows.{Fine}
 
 module _ (m n s : ℕ) where
   no_link : (x : ℕ) → link_of (new_board m n s).pool x ≡ 0
-  no_link x = cond_both (eqb x 0) 0 0 (λ (l : ℕ). l ≡ 0) (λ e. refl) (λ e. refl)
+  no_link x = grind arith
 
   stage_0 : new_stages 0 ≡ 0
   stage_0 = grind arith
@@ -24,16 +21,16 @@ module _ (m n s : ℕ) where
     shaped = record {
       ordered = record {
         head = stage_0;
-        falls = λ x l d. absurd (d (no_link x));
+        falls = λ x l d. grind arith;
         down = λ x l. grind arith;
-        single = λ x y kx ky e d. absurd (d (no_link x));
+        single = λ x y kx ky e d. grind arith;
       };
       books = books_new m n s stamps;
-      keys_apart = λ x y ax ay nx ny e. absurd (ahead_link ax (no_link 0));
+      keys_apart = λ x y ax ay nx ny e. grind arith;
       moved = tt;
       somewhere = λ x d l. Somewhere.in_free (upto_in 1 n (omega arith) (omega arith));
     };
-    sound = Histories.sound Histories.Runs.new;
+    sound = grind arith;
     few = few;
     rests = λ r i. cc;
     idle = λ e. refl;

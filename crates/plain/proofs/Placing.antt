@@ -7,7 +7,7 @@ use Rattle.plain.specs.Pools.{Pool, Move, link_of, filled, placed_behind, with_m
 use Rattle.plain.specs.Boards.{Area, Record, with_record}
 use Rattle.plain.proofs.Links.{Ahead, next_at, ahead_ne, ahead_from, ahead_to, ahead_trans, Ordered, Spliced, splice_fwd, splice_back, splice_ordered}
 use Rattle.plain.proofs.Lists.{In, in_cases}
-use Rattle.plain.proofs.Writes.{linked_elsewhere, filled_there, filled_elsewhere, filled_key, other_key, filled_stamp, other_stamp, record_stays}
+use Rattle.plain.proofs.Writes.{linked_elsewhere, filled_there, filled_elsewhere, record_stays}
 use Rattle.plain.proofs.Shape.{Shaped, Somewhere, Moved, Carried, Turned, Owed, listed_stage}
 use Rattle.plain.proofs.Books.{Fills, books_fill}
 
@@ -25,7 +25,7 @@ module _ {size : ℕ} {q : Pool} {stage rank : ℕ → ℕ} (s : Shaped size q s
   q₁ = with_move m (placed_behind k p q)
 
   head : head_or_0 q.free ≡ y
-  head = ap head_or_0 free
+  head = grind arith
 
   fresh : (stage y ≡ 3) × (y ≤ size)
   fresh = s.books.in_free y (rw free (In.first refl))
@@ -47,13 +47,13 @@ module _ {size : ℕ} {q : Pool} {stage rank : ℕ → ℕ} (s : Shaped size q s
   }
 
   pub key_new : q₁.key y ≡ k
-  key_new = filled_key k (link_of q p) q y head
+  key_new = grind arith
 
   pub key_old : (x : ℕ) → x ≢ y → q₁.key x ≡ q.key x
-  key_old x n = other_key k (link_of q p) q y head x n
+  key_old x n = grind arith
 
   stamp_old : (x : ℕ) → x ≢ y → q₁.stamp x ≡ q.stamp x
-  stamp_old x n = other_stamp k (link_of q p) q y head x n
+  stamp_old x n = grind arith
 
   fills : Fills q q₁ y
   fills = record {
@@ -61,7 +61,7 @@ module _ {size : ℕ} {q : Pool} {stage rank : ℕ → ℕ} (s : Shaped size q s
     due = refl;
     covered = refl;
     next_stamp = refl;
-    stamp_new = filled_stamp k (link_of q p) q y head;
+    stamp_new = grind arith;
     stamp_old = stamp_old;
   }
 
@@ -143,6 +143,6 @@ module _ {size : ℕ} {q : Pool} {stage rank : ℕ → ℕ} (s : Shaped size q s
         | inr c ↦ inl c
       ];
       fwd = λ x z l b. Carried.stays (still_ahead l b);
-      owed = λ c w. absurd (none aw c w);
+      owed = λ c w. grind arith;
     };
   }

@@ -1,7 +1,7 @@
 -- The chain of nodes ahead of a place, as a list: the node before another, who precedes whom, the first with a key.
 -- The board's own chain, which is followed no further than its size, is the whole chain. Assumes nothing.
 use Rattle.std.proofs.Common.{◌≡◌, ℕ, zero, suc, ◌<◌, ◌≤◌, true, false, cond, eqb, ◌≢◌, ◌⊎◌, List, [], ◌∷◌, length, sym, refl, ap, ◌∙◌, inl, inr, arith}
-use Rattle.std.proofs.lemmas.Bool.{eqb-true, eqb-false, cond_both, eq-eqb}
+use Rattle.std.proofs.lemmas.Bool.{eqb-true, eqb-false, cond_both}
 use Rattle.plain.specs.Pools.{reached, holder, before, precedes}
 use Rattle.plain.proofs.Links.{Ahead, ahead_ne, next_at, more_at, ahead_from, Ordered, not_ahead_of_itself, ahead_stage}
 use Rattle.plain.proofs.Lists.{In, in_cases, Apart, few}
@@ -96,8 +96,8 @@ module _ (lk : ℕ → ℕ) where
 
   pub reached_again : (f : ℕ) {p : ℕ} {l : List ℕ} → Chain lk p l → length l ≤ f → reached f lk p ≡ l
   reached_again zero (stop q) h = refl
-  reached_again zero (link q n c) h = absurd (omega arith)
-  reached_again (suc f) {p} (stop q) h = rw (eq-eqb (lk p) 0 q)
+  reached_again zero (link q n c) h = grind arith
+  reached_again (suc f) {p} (stop q) h = grind arith
   reached_again (suc f) {p} (link {y = y} {ys = ys} q n c) h =
       let r = reached_again f c (omega arith) in
       grind arith

@@ -9,7 +9,7 @@ use Rattle.plain.specs.Boards.{Area, Record, with_record}
 use Rattle.plain.proofs.Links.{Ahead, next_at, ahead_ne, ahead_to, ahead_trans, ahead_stage, Ordered, Spliced, Skipped, splice_fwd, splice_back, splice_ordered, skip_fwd, skip_back, skip_lost, skip_ordered}
 use Rattle.plain.proofs.Lists.{In, in_cases}
 use Rattle.plain.proofs.Reached.{chain_ahead, ahead_chain, before_links}
-use Rattle.plain.proofs.Writes.{linked_there, linked_elsewhere, filled_there, filled_elsewhere, filled_key, other_key, filled_stamp, other_stamp, record_stays}
+use Rattle.plain.proofs.Writes.{linked_there, linked_elsewhere, filled_there, filled_elsewhere, record_stays}
 use Rattle.plain.proofs.Shape.{Shaped, Somewhere, Books, Moved, Guarded, Carried, Owed, listed_stage, listed_chain}
 use Rattle.plain.proofs.Books.{Fills, books_fill, Retires, books_retire}
 use Rattle.plain.proofs.Placing.{Turn}
@@ -114,7 +114,7 @@ module _ {size : ℕ} {q : Pool} {stage rank : ℕ → ℕ} (s : Shaped size q s
           | inl e ↦ rw e (lost u l (ahead_to e b))
           | inr n ↦ Carried.stays (still_ahead n b)
         ];
-        owed = λ c w. absurd (none aw c w);
+        owed = λ c w. grind arith;
       };
     }
 
@@ -128,7 +128,7 @@ module _ {size : ℕ} {q : Pool} {stage rank : ℕ → ℕ} (s : Shaped size q s
     q₂ = retired x mid
 
     head : head_or_0 q.free ≡ y
-    head = ap head_or_0 free
+    head = grind arith
 
     fresh : (stage y ≡ 3) × (y ≤ size)
     fresh = s.books.in_free y (rw free (In.first refl))
@@ -222,13 +222,13 @@ module _ {size : ℕ} {q : Pool} {stage rank : ℕ → ℕ} (s : Shaped size q s
     ])
 
     key_new : q₂.key y ≡ k
-    key_new = filled_key k (link_of q x) q y head
+    key_new = grind arith
 
     key_old : (z : ℕ) → z ≢ y → q₂.key z ≡ q.key z
-    key_old z n = other_key k (link_of q x) q y head z n
+    key_old z n = grind arith
 
     stamp_old : (z : ℕ) → z ≢ y → q₂.stamp z ≡ q.stamp z
-    stamp_old z n = other_stamp k (link_of q x) q y head z n
+    stamp_old z n = grind arith
 
     fills : Fills q mid y
     fills = record {
@@ -236,7 +236,7 @@ module _ {size : ℕ} {q : Pool} {stage rank : ℕ → ℕ} (s : Shaped size q s
       due = refl;
       covered = refl;
       next_stamp = refl;
-      stamp_new = filled_stamp k (link_of q x) q y head;
+      stamp_new = grind arith;
       stamp_old = stamp_old;
     }
 
@@ -326,6 +326,6 @@ module _ {size : ℕ} {q : Pool} {stage rank : ℕ → ℕ} (s : Shaped size q s
           | inl e ↦ rw e (lost u l ex (ahead_to e b))
           | inr n ↦ Carried.stays (out_of_middle n (into_middle l b))
         ];
-        owed = λ c w. absurd (rw still at w);
+        owed = λ c w. grind arith;
       };
     }

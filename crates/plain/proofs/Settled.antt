@@ -12,7 +12,7 @@ use Rattle.plain.specs.History.{Moment, History, Run}
 use Rattle.plain.specs.Waits.{Removes, Begins, FindsOver, WaitPassed, Settled, counts, CountsSettle}
 use Rattle.plain.proofs.Checks.{made_of}
 use Rattle.plain.proofs.Follows.{Fine}
-use Rattle.plain.proofs.Events.{Did, did, removing, not_removal}
+use Rattle.plain.proofs.Events.{Did, did}
 use Rattle.plain.proofs.States.{state}
 use Rattle.plain.proofs.Counts.{not_listed_count}
 
@@ -91,7 +91,7 @@ record Chained (h : History) (due covered : List ℕ) : Type 0 where
   settled : ((due ≡ []) × (covered ≡ [])) ↔ Settled h
 
 tend_removes_not : {m : Moment} → m.call ≡ Call.tend → Removes m → ⊥
-tend_removes_not c r = not_removal (ap removing c) r
+tend_removes_not c r = grind arith
 
 begins_over_not : {m : Moment} → Begins m → ¬ (FindsOver m)
 begins_over_not k o = cc

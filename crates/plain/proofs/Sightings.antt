@@ -34,7 +34,7 @@ module _ {b : Board} {a : Area} {stage rank : ℕ → ℕ} {m : Moment} (f : Fin
       record {
         inside = n.stays r s.inside nl;
         ne = s.ne;
-        guarded = u.guards x.node s.guarded;
+        guarded = grind arith;
         stamp = cc;
         key = cc;
         fields = cc;

@@ -1,22 +1,20 @@
 -- What an answer tells of the reader that called: sightings, the end of a walk, its start; and whose place stays at a call.
 -- This is shown once for every call (told). Assumes nothing.
-use Rattle.std.proofs.Common.{◌≡◌, ℕ, Bool, true, false, not, ◌||◌, eqb, ◌≢◌, ◌⊎◌, sym, refl, ap, subst, inl, inr, arith}
+use Rattle.std.proofs.Common.{◌≡◌, ℕ, Bool, true, false, eqb, ◌≢◌, ◌⊎◌, sym, refl, ap, subst, inl, inr, arith}
 use Rattle.std.proofs.lemmas.Bool.{cases_eq, eqb-true, eqb-false, cond_both}
-use Rattle.scheme.specs.declared.interface.Poll.{Poll}
-use Rattle.plain.proofs.Changed.{changed_at, changed_elsewhere}
 use Rattle.record.specs.Making.{Making}
-use Rattle.plain.specs.Pools.{link_of, is_empty, needs_begin}
+use Rattle.plain.specs.Pools.{link_of}
 use Rattle.plain.specs.Boards.{Board, Area, Slot, Walk, at_rest, with_slot, is_wanted, node_of, record_at}
 use Rattle.plain.specs.Calls.{Call, Answer}
 use Rattle.plain.specs.Refusals.{checks}
-use Rattle.plain.specs.Plain.{Result, accepted, result, tended, unchanged}
+use Rattle.plain.specs.Plain.{Result, accepted, result, unchanged}
 use Rattle.plain.specs.History.{Moment, moment}
 use Rattle.plain.specs.Sightings.{Leaves, Sighting, sighting, StepsOn, Sights}
 use Rattle.plain.specs.Walks.{Starts, ReachesEnd, Steps}
 use Rattle.plain.proofs.Links.{Ahead, next_at}
 use Rattle.plain.proofs.Shape.{node_there}
 use Rattle.plain.proofs.Checks.{Passed, checked_both}
-use Rattle.plain.proofs.Follows.{Fine, poll_cases}
+use Rattle.plain.proofs.Follows.{Fine}
 
 -- reader r has x before it on the board b
 pub record Beholds (b : Board) (a : Area) (r : ℕ) (x : Sighting) : Type 0 where
@@ -62,12 +60,12 @@ walks c = false
 
 told_silent : (b : Board) (a : Area) (m : Moment) → walks m.call ≡ false → ((r : ℕ) → b.who.inside r ≡ true → ¬ (Leaves r m) → (m.board.slots r).place ≡ (b.slots r).place) → Told b a m
 told_silent b a m silent same = record {
-  beholds = λ r x t. absurd (elim (sights_call t) [ inl e ↦ not_by (Call.step r) e refl | inr e ↦ not_by (Call.aside r e.0) e.1 refl ]);
-  treads = λ r x t. absurd (not_by (Call.step r) (steps_call t) refl);
-  ends = λ r t. absurd (not_by (Call.step r) t.0 refl);
-  begins = λ r t. absurd (not_by (Call.from r t.wanted) t.asked refl);
+  beholds = λ r x t. grind arith;
+  treads = λ r x t. grind arith;
+  ends = λ r t. grind arith;
+  begins = λ r t. grind arith;
   keeps = λ r i ns nl ne no_step. same r i nl;
-  steps = λ r. inr ((λ x t. not_by (Call.step r) (steps_call t) refl), (λ t. absurd (not_by (Call.step r) t.asked refl)));
+  steps = λ r. grind arith;
 }
   where
     not_by : (c : Call) → m.call ≡ c → walks c ≡ true → ⊥
@@ -85,20 +83,20 @@ refused_sights e (Sights.by_aside w n s k v c q x) = cc
 
 told_refused : (b : Board) (a : Area) (c : Call) (n k : ℕ) → Told b a (moment c (unchanged b a (Answer.refused n k)))
 told_refused b a c n k = record {
-  beholds = λ r x t. absurd (refused_sights refl t);
-  treads = λ r x t. absurd (refused_on refl t);
+  beholds = λ r x t. grind arith;
+  treads = λ r x t. grind arith;
   ends = λ r t. cc;
   begins = λ r t. cc;
   keeps = λ r i ns nl ne no_step. refl;
-  steps = λ r. inr ((λ x t. refused_on refl t), (λ t. absurd (t.granted n k refl)));
+  steps = λ r. grind arith;
 }
 
 module _ {b : Board} {stage rank : ℕ → ℕ} (f : Fine b stage rank) (a : Area) where
   slot_there : (r : ℕ) (s : Slot) → ((with_slot r s b).slots r).place ≡ s.place
-  slot_there r s = ap (λ (z : Slot). z.place) (changed_at b.slots r r s refl)
+  slot_there r s = grind arith
 
   slot_else : (r u : ℕ) (s : Slot) → u ≢ r → ((with_slot r s b).slots u).place ≡ (b.slots u).place
-  slot_else r u s n = ap (λ (z : Slot). z.place) (changed_elsewhere b.slots r u s n)
+  slot_else r u s n = grind arith
 
   -- ---- a walk starts
 
@@ -122,10 +120,10 @@ module _ {b : Board} {stage rank : ℕ → ℕ} (f : Fine b stage rank) (a : Are
   told_end : (r : ℕ) → link_of b.pool (b.slots r).place ≡ 0 → Told b a (record { call = Call.step r; answer = Answer.end; board = with_slot r at_rest b; area = a })
   told_end r z = record {
     beholds = λ u x t. absurd (not_sighted t);
-    treads = λ u x t. absurd (not_on t);
-    ends = λ u t. let q = t.0 in let e : r ≡ u = cc in rw e at z;
+    treads = λ u x t. grind arith;
+    ends = λ u t. grind arith;
     begins = λ u t. cc;
-    keeps = λ u iu ns nl ne no_step. slot_else r u at_rest (λ e. ne (ap Call.step (sym e), refl));
+    keeps = λ u iu ns nl ne no_step. grind arith;
     steps = λ u. inr ((λ x t. not_on t), (λ t. (t.asked, refl)));
   }
     where
@@ -168,9 +166,9 @@ module _ {b : Board} {stage rank : ℕ → ℕ} (f : Fine b stage rank) (a : Are
             let node : z ≡ x.node = ap (λ (y : Sighting). y.node) o.1 in
             subst (λ (v : ℕ). (link_of b.pool (b.slots v).place ≡ x.node) × (((with_slot r s b).slots v).place ≡ x.node)) o.0
             (node, grind arith);
-        ends = λ u t. absurd (not_end t.1);
+        ends = λ u t. grind arith;
         begins = λ u t. cc;
-        keeps = λ u iu ns nl ne' no_step. slot_else r u s (λ e. no_step x₀ (rw e on));
+        keeps = λ u iu ns nl ne' no_step. grind arith;
         steps = λ u. elim (cases_eq r u) [
           | inl e ↦ inl (x₀, subst (λ (v : ℕ). StepsOn v m x₀) e on)
           | inr n ↦ inr ((λ x t. n (only u x t).0), (λ t. absurd (n (let q = t.asked in cc))))
@@ -237,10 +235,7 @@ module _ {b : Board} {stage rank : ℕ → ℕ} (f : Fine b stage rank) (a : Are
   told_tend making = told_silent b a (moment Call.tend (accepted making b a Call.tend)) refl (λ r i n. ap (λ (slots : ℕ → Slot). (slots r).place) slots_same)
     where
       slots_same : (accepted making b a Call.tend).board.slots ≡ b.slots
-      slots_same = poll_cases b.who (λ (said : Poll). (tended b a said).board.slots ≡ b.slots)
-          (λ e. cond_both (not (is_empty b.pool.due) || needs_begin b.pool.move) _ _ (λ (res : Result). res.board.slots ≡ b.slots) (λ g. refl) (λ g. refl))
-          (λ e g. refl)
-          (λ e g. refl)
+      slots_same = grind arith
 
   told_accepted : (making : Making) (c : Call) → Passed (checks making b a c) → Told b a (moment c (accepted making b a c))
   told_accepted making (Call.enter u) passed = told_silent b a (moment (Call.enter u) (accepted making b a (Call.enter u))) refl

@@ -17,8 +17,8 @@ use Rattle.plain.proofs.Way.{Way, key_of, way_starts, way_goes, way_stays}
 
 module _ {P : Moment → Type 0} where
   count_older : {m : Moment} {w : History} {n : ℕ} → Count P (m ∷ w) n → (k : ℕ) × Count P w k × (n ≤ suc k)
-  count_older (Count.one_more {n = k} p c) = (k, c, omega arith)
-  count_older (Count.no_more {n = k} p c) = (k, c, omega arith)
+  count_older (Count.one_more {n = k} p c) = grind arith
+  count_older (Count.no_more {n = k} p c) = grind arith
 
   count_same : {m : Moment} {w : History} {n : ℕ} → ¬ (P m) → Count P (m ∷ w) n → Count P w n
   count_same np (Count.one_more p c) = absurd (np p)
@@ -51,7 +51,7 @@ module _ {b : Board} {a : Area} {stage rank : ℕ → ℕ} {m : Moment} (f : Fin
   under_way_starts s =
       let g = t.begins r s in
       record {
-        inside = n.stays r g.0 (starts_stays s);
+        inside = grind arith;
         trodden = [];
         way = rw g.1 (way_starts n.fine r m refl);
         count = λ k c. count_none (count_same (starts_steps s) c);
@@ -60,7 +60,7 @@ module _ {b : Board} {a : Area} {stage rank : ℕ → ℕ} {m : Moment} (f : Fin
   pub under_way_goes_on : {w : History} → ¬ (Starts r m) → ¬ (Leaves r m) → ¬ (ReachesEnd r m) → UnderWay b stage r w → UnderWay m.board n.stage' r (m ∷ w)
   under_way_goes_on {w} ns nl ne u = elim (t.steps r) [
     | inr no_step ↦ record {
-      inside = n.stays r u.inside nl;
+      inside = grind arith;
       trodden = u.trodden;
       way = rw (t.keeps r u.inside ns nl ne no_step.0) stayed;
       count = λ k c. u.count k (count_same (λ s. ne (no_step.1 s)) c);

@@ -7,7 +7,7 @@ use Rattle.plain.specs.Boards.{Board, Area, is_listed}
 use Rattle.plain.specs.History.{Moment, History, Every}
 use Rattle.plain.specs.Sightings.{Leaves}
 use Rattle.plain.specs.Walks.{StepsOnKey, Listed}
-use Rattle.plain.proofs.Links.{Ahead, ahead_ne, ahead_from, ahead_to, ahead_stage, not_ahead_of_itself, more_at, next_at}
+use Rattle.plain.proofs.Links.{Ahead, ahead_ne, ahead_to, ahead_stage, not_ahead_of_itself, more_at, next_at}
 use Rattle.plain.proofs.Lists.{In, in_cases, Apart}
 use Rattle.plain.proofs.Shape.{Guarded, Carried, Turned, Owed, owed_two, node_there, there, listed_stage}
 use Rattle.plain.proofs.Follows.{Fine, Follows}
@@ -43,7 +43,7 @@ module _ {b : Board} {stage rank : ℕ → ℕ} (f : Fine b stage rank) where
     clear = λ x i. elim i [ ];
     honest = λ z a. Any.here (rw e (is_there z a));
     complete = λ k ev. inr (listed_at k (rw e at ev.0));
-    copies = λ c w. inr (owed_listed (b.who.awaited r) c w);
+    copies = λ c w. grind arith;
   }
 
   -- a walk goes on to the next node
@@ -82,20 +82,20 @@ module _ {b : Board} {stage rank : ℕ → ℕ} (f : Fine b stage rank) where
       -- what is ahead of p is z, or ahead of z
       split : (x : ℕ) → Ahead (link_of b.pool) x p → (z ≡ x) ⊎ Ahead (link_of b.pool) x z
       split x (Ahead.next d q) = inl (cc)
-      split x (Ahead.more d a) = inr (ahead_from e a)
+      split x (Ahead.more d a) = grind arith
 
 module _ {b : Board} {a : Area} {stage rank : ℕ → ℕ} {m : Moment} (f : Fine b stage rank) (n : Follows b a stage m) (r : ℕ) (i : b.who.inside r ≡ true) (nl : ¬ (Leaves r m)) where
   u : Turned b.pool m.board.pool a m.area stage n.stage' (b.who.awaited r) (m.board.who.awaited r)
   u = n.turned r i nl
 
   key_kept : (x : ℕ) → x ≢ 0 → stage x < 3 → key_of m.board x ≡ key_of b x
-  key_kept x d l = (u.kept x d l).key
+  key_kept x d l = grind arith
 
   -- a call is made while the walk stands at p
   pub way_stays : (w : History) (p : ℕ) (v : List ℕ) → Guarded stage (b.who.awaited r) p → Way b stage r w p v → Way m.board n.stage' r (m ∷ w) p v
   way_stays w p v g y = record {
     apart = y.apart;
-    live = λ x j. let l = y.live x j in (l.0, u.guards x l.1);
+    live = λ x j. grind arith;
     clear = λ x j c. elim (u.back p x g.live c) [
       | inl d ↦ y.clear x j d
       | inr d ↦ grind arith
