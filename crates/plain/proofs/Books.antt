@@ -51,9 +51,6 @@ module _ {size : ℕ} {q q' : Pool} {stage : ℕ → ℕ} {y : ℕ} (k : Books s
       below : (x : ℕ) → q'.stamp x < q'.next_stamp
       below x = grind arith
 
-      new_alone : (x : ℕ) → x ≢ y → q'.stamp x ≢ q.next_stamp
-      new_alone x n e = omega arith
-
       apart : (x z : ℕ) → x ≢ 0 → z ≢ 0 → changed stage y 0 x < 3 → changed stage y 0 z < 3 → q'.stamp x ≡ q'.stamp z → x ≡ z
       apart x z nx nz lx lz e = grind arith
 

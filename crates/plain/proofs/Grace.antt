@@ -1,37 +1,14 @@
 -- A wait begins, and is found over:
 -- the pool is sound again, and a reader that was not awaited stands on no node that is freed. Assumes nothing.
-use Rattle.std.proofs.Common.{◌≡◌, ℕ, Bool, true, false, ◌≢◌, [], refl, inl, arith}
-use Rattle.plain.specs.Pools.{Pool, Move, Need, covering, freeing, at_begin, at_over}
+use Rattle.std.proofs.Common.{◌≡◌, ℕ, Bool, false, ◌≢◌, [], refl, inl, arith}
+use Rattle.plain.specs.Pools.{Pool, covering, freeing}
 use Rattle.plain.specs.Boards.{Area}
 use Rattle.plain.proofs.Links.{raised, raised_cases}
 use Rattle.plain.proofs.Lists.{in_left, in_right}
-use Rattle.plain.proofs.Shape.{Shaped, Somewhere, Moved, Carried, Turned, Owed}
+use Rattle.plain.proofs.Shape.{Shaped, Somewhere, Carried, Turned}
 use Rattle.plain.proofs.Books.{books_begin, books_over}
 
-moved_begin : (q : Pool) (m : Move) → Moved q m → Moved (covering q) (at_begin m)
-moved_begin q (Move.earlier o c Need.lacking) t = t
-moved_begin q m t = t
-
-moved_over : (q : Pool) (m : Move) → Moved q m → Moved (freeing q) (at_over m)
-moved_over q (Move.earlier o c Need.begun) t = t
-moved_over q m t = t
-
-owed_begin : (m : Move) (aw aw' : Bool) (x : ℕ) → aw' ≡ true → Owed (at_begin m) aw' x → Owed m aw x
-owed_begin (Move.earlier o c Need.lacking) aw aw' x e w = cc
-owed_begin (Move.earlier o c Need.begun) aw aw' x e w = cc
-owed_begin m aw aw' x e w = w
-
-owed_over : (m : Move) (aw aw' : Bool) (x : ℕ) → aw ≡ false → Owed (at_over m) aw' x → Owed m aw x
-owed_over (Move.earlier o c Need.begun) aw aw' x e w = (e, w)
-owed_over m aw aw' x e w = w
-
 module _ {size : ℕ} {q : Pool} {stage rank : ℕ → ℕ} (s : Shaped size q stage rank) where
-  begun_somewhere : q.covered ≡ [] → (x : ℕ) → Somewhere q x → Somewhere (covering q) x
-  begun_somewhere e x (Somewhere.on_list c) = Somewhere.on_list c
-  begun_somewhere e x (Somewhere.in_free i) = Somewhere.in_free i
-  begun_somewhere e x (Somewhere.in_due i) = Somewhere.in_covered i
-  begun_somewhere e x (Somewhere.in_covered i) = elim (rw e at i) [ ]
-
   over_somewhere : (x : ℕ) → Somewhere q x → Somewhere (freeing q) x
   over_somewhere x (Somewhere.on_list c) = Somewhere.on_list c
   over_somewhere x (Somewhere.in_free i) = Somewhere.in_free (in_right q.covered i)
@@ -56,16 +33,6 @@ module _ {size : ℕ} {q : Pool} {stage rank : ℕ → ℕ} (s : Shaped size q s
     somewhere = λ x n l. over_somewhere x (s.somewhere x n l);
   }
 
-  -- a wait begins, and the reader is inside
-  pub begin_turned : (a : Area) (aw aw' : Bool) → aw' ≡ true → Turned q (covering q) a a stage (λ x. raised 1 (stage x)) aw aw'
-  begin_turned a aw aw' e = record {
-    kept = λ x n l. record { key = refl; stamp = refl; fields = refl };
-    guards = λ x g. record { live = grind arith; waits = λ w. e };
-    back = λ x z l b. inl b;
-    fwd = λ x z l b. Carried.stays b;
-    owed = λ c w. grind arith;
-  }
-
   -- a wait is found over, and the reader is not awaited
   pub over_turned : (a : Area) (aw aw' : Bool) → aw ≡ false → Turned q (freeing q) a a stage (λ x. raised 2 (stage x)) aw aw'
   over_turned a aw aw' e = record {
@@ -75,16 +42,6 @@ module _ {size : ℕ} {q : Pool} {stage rank : ℕ → ℕ} (s : Shaped size q s
         let l = g.live in
         let c = raised_cases 2 (stage x) in
         record { live = omega arith; waits = λ w. absurd (omega arith) };
-    back = λ x z l b. inl b;
-    fwd = λ x z l b. Carried.stays b;
-    owed = λ c w. grind arith;
-  }
-
-  -- nothing of the pool changes
-  pub quiet_turned : (a : Area) (aw aw' : Bool) → aw' ≡ aw → Turned q q a a stage stage aw aw'
-  quiet_turned a aw aw' e = record {
-    kept = λ x n l. record { key = refl; stamp = refl; fields = refl };
-    guards = λ x g. record { live = g.live; waits = λ w. grind arith };
     back = λ x z l b. inl b;
     fwd = λ x z l b. Carried.stays b;
     owed = λ c w. grind arith;

@@ -193,11 +193,3 @@ raised a k = cond (eqb k a) (suc a) k
 
 pub raised_cases : (a k : ℕ) → ((k ≡ a) × (raised a k ≡ suc a)) ⊎ ((k ≢ a) × (raised a k ≡ k))
 raised_cases a k = grind arith
-
-pub raised_ordered : {lk stage rank : ℕ → ℕ} (a : ℕ) → 0 < a → a < 3 → Ordered lk stage rank → Ordered lk (λ x. raised a (stage x)) rank
-raised_ordered a pos small o = record {
-  head = grind arith;
-  falls = λ x l n. grind arith;
-  down = λ x l. grind arith;
-  single = λ x y kx ky e n. grind arith;
-}

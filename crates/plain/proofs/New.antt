@@ -1,6 +1,5 @@
 -- What holds of every board holds of a new one, and a board that was made is a new one. Assumes nothing.
 use Rattle.std.proofs.Common.{◌≡◌, ℕ, ◌<◌, ◌≤◌, refl, inl, arith}
-use Rattle.plain.specs.Pools.{link_of}
 use Rattle.plain.specs.Boards.{Board, new_board}
 use Rattle.plain.specs.Plain.{make}
 use Rattle.plain.proofs.Lists.{upto_in}
@@ -10,9 +9,6 @@ use Rattle.plain.proofs.Books.{new_stages, books_new}
 use Rattle.plain.proofs.Follows.{Fine}
 
 module _ (m n s : ℕ) where
-  no_link : (x : ℕ) → link_of (new_board m n s).pool x ≡ 0
-  no_link x = grind arith
-
   stage_0 : new_stages 0 ≡ 0
   stage_0 = grind arith
 

@@ -73,14 +73,6 @@ told_silent b a m silent same = record {
 
 -- ---- refused calls
 
-refused_on : {r n k : ℕ} {m : Moment} {x : Sighting} → m.answer ≡ Answer.refused n k → StepsOn r m x → ⊥
-refused_on e (StepsOn.by_seen n s k c q) = cc
-refused_on e (StepsOn.by_found n s k c q) = cc
-
-refused_sights : {r n k : ℕ} {m : Moment} {x : Sighting} → m.answer ≡ Answer.refused n k → Sights r x m → ⊥
-refused_sights e (Sights.by_step t) = refused_on e t
-refused_sights e (Sights.by_aside w n s k v c q x) = cc
-
 told_refused : (b : Board) (a : Area) (c : Call) (n k : ℕ) → Told b a (moment c (unchanged b a (Answer.refused n k)))
 told_refused b a c n k = record {
   beholds = λ r x t. grind arith;

@@ -41,9 +41,6 @@ trodden_few f u = few _ u.way.apart (λ x i.
     (omega arith, f.shaped.books.bounded x l.1.live))
 
 module _ {b : Board} {a : Area} {stage rank : ℕ → ℕ} {m : Moment} (f : Fine b stage rank) (t : Told b a m) (n : Follows b a stage m) (r : ℕ) where
-  starts_stays : Starts r m → ¬ (Leaves r m)
-  starts_stays s l = cc
-
   starts_steps : Starts r m → ¬ (Steps r m)
   starts_steps s e = cc
 

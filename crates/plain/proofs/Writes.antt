@@ -21,17 +21,8 @@ module _ (k v : ℕ) (q : Pool) (y : ℕ) (is : head_or_0 q.free ≡ y) where
   pub filled_elsewhere : (x : ℕ) → x ≢ y → link_of (filled k v q) x ≡ link_of q x
   filled_elsewhere x d = grind arith
 
-  pub filled_key : (filled k v q).key y ≡ k
-  filled_key = grind arith
-
   pub other_key : (x : ℕ) → x ≢ y → (filled k v q).key x ≡ q.key x
   other_key x d = grind arith
-
-  pub filled_stamp : (filled k v q).stamp y ≡ q.next_stamp
-  filled_stamp = grind arith
-
-  pub other_stamp : (x : ℕ) → x ≢ y → (filled k v q).stamp x ≡ q.stamp x
-  other_stamp x d = grind arith
 
 -- ---- another node's record stays
 
