@@ -69,7 +69,7 @@ module _ {size : ℕ} {q q' : Pool} {stage : ℕ → ℕ} {x : ℕ} (k : Books s
     in_free = λ z i. grind arith;
     in_due = λ z i. elim (in_cases (rw f.due at i)) [
       | inl e ↦ grind arith
-      | inr j ↦ let r = k.in_due z j in grind arith
+      | inr j ↦ grind arith
     ];
     in_covered = λ z i. grind arith;
     apart_free = grind arith;

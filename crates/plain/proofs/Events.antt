@@ -189,7 +189,6 @@ module _ {b : Board} {stage rank : ℕ → ℕ} (f : Fine b stage rank) (a : Are
 
   did_accepted : (c : Call) → Passed (checks making b a c) → Did b (moment c (accepted making b a c))
   did_accepted (Call.enter r) passed =
-      let few = f.few in
       let may : may_enter r b.who ≡ true = grind arith in
       visit_did (Call.enter r) _ (Enter r) (record { echoes = answered enter_echoes (ap told may); who = refl }) (λ e. cc) refl refl
   did_accepted (Call.leave r) passed =

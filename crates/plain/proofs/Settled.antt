@@ -147,5 +147,5 @@ counts_settle making {b = b} run =
     let all = not_listed_count (state making run).fine.shaped in
     let i = chained making run in (
       (λ e. i.settled.0 (nil_from_length b.pool.due (omega arith), nil_from_length b.pool.covered (omega arith))),
-      (λ s. let p = i.settled.1 s in grind arith),
+      (λ s. grind arith),
     )

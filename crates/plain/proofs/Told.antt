@@ -98,7 +98,6 @@ module _ {b : Board} {stage rank : ℕ → ℕ} (f : Fine b stage rank) (a : Are
     treads = λ u x t. cc (steps_call t);
     ends = λ u t. cc;
     begins = λ u t.
-        let q = t.asked in
         let e : r ≡ u = cc in (
           rw e at i,
           subst (λ (v : ℕ). ((with_slot r (record { walk = Walk.for_key k; place = 0 }) b).slots v).place ≡ 0) e (slot_there r (record { walk = Walk.for_key k; place = 0 })),
@@ -163,7 +162,7 @@ module _ {b : Board} {stage rank : ℕ → ℕ} (f : Fine b stage rank) (a : Are
         keeps = λ u iu ns nl ne' no_step. grind arith;
         steps = λ u. elim (cases_eq r u) [
           | inl e ↦ inl (x₀, subst (λ (v : ℕ). StepsOn v m x₀) e on)
-          | inr n ↦ inr ((λ x t. n (only u x t).0), (λ t. absurd (n (let q = t.asked in cc))))
+          | inr n ↦ inr ((λ x t. n (only u x t).0), (λ t. absurd (n (cc))))
         ];
       }
 
