@@ -1,9 +1,7 @@
 -- The kinds, the three chains and the stamps through each change of a pool:
 -- a node is filled, one is removed, a wait begins, a wait is found over; and on a new board. Assumes nothing.
-use Rattle.std.proofs.Common.{◌≡◌, ℕ, suc, ◌<◌, ◌≤◌, ◌≢◌, ◌∷◌, refl, ap, ◌∙◌, inl, inr, arith}
-use Rattle.std.proofs.lemmas.Bool.{cases_eq}
+use Rattle.std.proofs.Common.{◌≡◌, ℕ, suc, ◌<◌, ◌≤◌, ◌≢◌, ◌∷◌, refl, arith}
 use Rattle.plain.specs.Changed.{changed}
-use Rattle.plain.proofs.Changed.{changed_elsewhere}
 use Rattle.plain.specs.Pools.{Pool, covering, freeing}
 use Rattle.plain.specs.Boards.{new_board}
 use Rattle.plain.proofs.Links.{raised}
@@ -28,31 +26,19 @@ module _ {size : ℕ} {q q' : Pool} {stage : ℕ → ℕ} {y : ℕ} (k : Books s
 
   pub books_fill : Books size q' (changed stage y 0)
   books_fill = record {
-    bounded = λ x l. elim (cases_eq x y) [
-      | inl e ↦ rw e fresh.1
-      | inr n ↦ k.bounded x (grind arith)
-    ];
+    bounded = λ x l. grind (arith, fresh);
     in_free = λ x i.
         let n : x ≢ y = λ e. apart_head free_apart (rw e at i) in
         let r = k.in_free x (rw f.free (In.later i)) in
-        (grind arith, r.1);
-    in_due = λ x i. let r = k.in_due x (rw f.due at i) in changed_elsewhere stage y x 0 (not_fresh x (omega arith)) ∙ r;
-    in_covered = λ x i. let r = k.in_covered x (rw f.covered at i) in changed_elsewhere stage y x 0 (not_fresh x (omega arith)) ∙ r;
+        grind arith;
+    in_due = λ x i. grind (arith, fresh);
+    in_covered = λ x i. grind (arith, fresh);
     apart_free = apart_tail free_apart;
     apart_due = grind arith;
     apart_covered = grind arith;
-    stamps_below = below;
-    stamps_apart = apart;
+    stamps_below = λ x. grind arith;
+    stamps_apart = λ x z nx nz lx lz e. grind arith;
   }
-    where
-      not_fresh : (x : ℕ) → stage x < 3 → x ≢ y
-      not_fresh x l e = omega (arith, fresh.0, ap stage e)
-
-      below : (x : ℕ) → q'.stamp x < q'.next_stamp
-      below x = grind arith
-
-      apart : (x z : ℕ) → x ≢ 0 → z ≢ 0 → changed stage y 0 x < 3 → changed stage y 0 z < 3 → q'.stamp x ≡ q'.stamp z → x ≡ z
-      apart x z nx nz lx lz e = grind arith
 
 -- the listed node x is removed
 pub record Retires (q q' : Pool) (x : ℕ) : Type 0 where
@@ -67,10 +53,7 @@ module _ {size : ℕ} {q q' : Pool} {stage : ℕ → ℕ} {x : ℕ} (k : Books s
   books_retire = record {
     bounded = λ z l. grind arith;
     in_free = λ z i. grind arith;
-    in_due = λ z i. elim (in_cases (rw f.due at i)) [
-      | inl e ↦ grind arith
-      | inr j ↦ grind arith
-    ];
+    in_due = λ z i. let c = in_cases (rw f.due at i) in grind arith;
     in_covered = λ z i. grind arith;
     apart_free = grind arith;
     apart_due = rw f.due (Apart.one_more (λ (i : In x q.due). grind arith) k.apart_due);
@@ -78,12 +61,6 @@ module _ {size : ℕ} {q q' : Pool} {stage : ℕ → ℕ} {x : ℕ} (k : Books s
     stamps_below = λ z. grind arith;
     stamps_apart = λ u v nu nv lu lv e. grind arith;
   }
-    where
-      other : (z : ℕ) → stage z ≢ 0 → changed stage x 1 z ≡ stage z
-      other z n = grind arith
-
-      live : (z : ℕ) → changed stage x 1 z < 3 → stage z < 3
-      live z l = grind arith
 
 -- ---- waits
 
@@ -103,10 +80,7 @@ books_begin {stage = stage} k = record {
 pub books_over : {size : ℕ} {q : Pool} {stage : ℕ → ℕ} → Books size q stage → Books size (freeing q) (λ x. raised 2 (stage x))
 books_over {q = q} {stage = stage} k = record {
   bounded = λ x l. grind arith;
-  in_free = λ x i. elim (in_append q.covered i) [
-    | inl j ↦ (grind arith, k.bounded x (grind arith))
-    | inr j ↦ let r = k.in_free x j in (grind arith, r.1)
-  ];
+  in_free = λ x i. let c = in_append q.covered i in grind arith;
   in_due = λ x i. grind arith;
   in_covered = λ x i. elim i [ ];
   apart_free = apart_append k.apart_covered k.apart_free (λ x i j. grind arith);
@@ -122,13 +96,10 @@ books_over {q = q} {stage = stage} k = record {
 abbrev pub new_stages : ℕ → ℕ
 new_stages = changed (λ x. 3) 0 0
 
-new_free : (x : ℕ) → x ≢ 0 → new_stages x ≡ 3
-new_free x n = grind arith
-
 pub books_new : (m n s : ℕ) → 0 < s → Books n (new_board m n s).pool new_stages
 books_new m n s h = record {
   bounded = λ x l. grind arith;
-  in_free = λ x i. let r = in_upto 1 n i in (new_free x (omega arith), omega arith);
+  in_free = λ x i. let r = in_upto 1 n i in grind arith;
   in_due = λ x i. elim i [ ];
   in_covered = λ x i. elim i [ ];
   apart_free = apart_upto 1 n;

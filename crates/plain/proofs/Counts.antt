@@ -22,11 +22,8 @@ module _ {size : ℕ} {q : Pool} {stage rank : ℕ → ℕ} (s : Shaped size q s
 
   in_off : (x : ℕ) → In x off_list → (stage x ≢ 0) × (x ≤ size)
   in_off x i = elim (in_append q.free i) [
-    | inl j ↦ let k = s.books.in_free x j in ((λ e. omega arith), k.1)
-    | inr j ↦ elim (in_append q.due j) [
-      | inl l ↦ ((λ e. omega arith), s.books.bounded x (omega arith))
-      | inr l ↦ ((λ e. omega arith), s.books.bounded x (omega arith))
-    ]
+    | inl j ↦ grind arith
+    | inr j ↦ let c = in_append q.due j in grind arith
   ]
 
   listed_apart : Apart on_list
@@ -36,10 +33,7 @@ module _ {size : ℕ} {q : Pool} {stage rank : ℕ → ℕ} (s : Shaped size q s
   all_apart = apart_append listed_apart
       (apart_append s.books.apart_free
       (apart_append s.books.apart_due s.books.apart_covered (λ x i j. grind arith))
-      (λ x i j. elim (in_append q.due j) [
-        | inl l ↦ grind arith
-        | inr l ↦ grind arith
-      ]))
+      (λ x i j. let c = in_append q.due j in grind arith))
       (λ x i j. (in_off x j).0 (in_list x i).0)
 
   list_in_range : (x : ℕ) → In x on_list → (0 < x) × (x ≤ size)
@@ -51,13 +45,7 @@ module _ {size : ℕ} {q : Pool} {stage rank : ℕ → ℕ} (s : Shaped size q s
   listed_few = few size listed_apart list_in_range
 
   in_range : (x : ℕ) → In x (on_list ++ off_list) → (0 < x) × (x ≤ size)
-  in_range x i = elim (in_append on_list i) [
-    | inl j ↦ list_in_range x j
-    | inr j ↦
-        let k = in_off x j in
-        let n : x ≢ 0 = λ e. k.0 (cc) in
-        (omega arith, k.1)
-  ]
+  in_range x i = elim (in_append on_list i) [ inl j ↦ list_in_range x j | inr j ↦ let k = in_off x j in grind arith ]
 
   pub placed : (x : ℕ) → Somewhere q x → In x (on_list ++ off_list)
   placed x (Somewhere.on_list a) = in_left off_list (ahead_chain (listed_chain s) a)

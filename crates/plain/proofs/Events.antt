@@ -87,9 +87,6 @@ not_told {b} {m} quiet who = record {
   };
   who = who;
 }
-  where
-    not_by : (c : Call) → telling c ≡ true → m.call ≡ c → ⊥
-    not_by c t e = grind arith
 
 pub not_removal : {m : Moment} → removing m.call ≡ false → Removes m → ⊥
 not_removal {m} keeps (Removes.by_cut k n s e q) = grind arith

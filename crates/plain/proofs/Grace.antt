@@ -1,9 +1,9 @@
 -- A wait begins, and is found over:
 -- the pool is sound again, and a reader that was not awaited stands on no node that is freed. Assumes nothing.
-use Rattle.std.proofs.Common.{◌≡◌, ℕ, Bool, false, ◌≢◌, [], refl, inl, arith}
+use Rattle.std.proofs.Common.{◌≡◌, ℕ, Bool, false, [], refl, inl, arith}
 use Rattle.plain.specs.Pools.{Pool, covering, freeing}
 use Rattle.plain.specs.Boards.{Area}
-use Rattle.plain.proofs.Links.{raised, raised_cases}
+use Rattle.plain.proofs.Links.{raised}
 use Rattle.plain.proofs.Lists.{in_left, in_right}
 use Rattle.plain.proofs.Shape.{Shaped, Somewhere, Carried, Turned}
 use Rattle.plain.proofs.Books.{books_begin, books_over}
@@ -37,11 +37,7 @@ module _ {size : ℕ} {q : Pool} {stage rank : ℕ → ℕ} (s : Shaped size q s
   pub over_turned : (a : Area) (aw aw' : Bool) → aw ≡ false → Turned q (freeing q) a a stage (λ x. raised 2 (stage x)) aw aw'
   over_turned a aw aw' e = record {
     kept = λ x n l. record { key = refl; stamp = refl; fields = refl };
-    guards = λ x g.
-        let n : stage x ≢ 2 = λ w. grind arith in
-        let l = g.live in
-        let c = raised_cases 2 (stage x) in
-        record { live = omega arith; waits = λ w. absurd (omega arith) };
+    guards = λ x g. record { live = grind arith; waits = λ w. grind arith };
     back = λ x z l b. inl b;
     fwd = λ x z l b. Carried.stays b;
     owed = λ c w. grind arith;

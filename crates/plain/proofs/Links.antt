@@ -190,6 +190,3 @@ module _ {lk lk' stage rank : ℕ → ℕ} (o : Ordered lk stage rank) (p : ℕ)
 
 abbrev pub raised : ℕ → ℕ → ℕ
 raised a k = cond (eqb k a) (suc a) k
-
-pub raised_cases : (a k : ℕ) → ((k ≡ a) × (raised a k ≡ suc a)) ⊎ ((k ≢ a) × (raised a k ≡ k))
-raised_cases a k = grind arith

@@ -9,14 +9,11 @@ use Rattle.plain.proofs.Books.{new_stages, books_new}
 use Rattle.plain.proofs.Follows.{Fine}
 
 module _ (m n s : ℕ) where
-  stage_0 : new_stages 0 ≡ 0
-  stage_0 = grind arith
-
   fine_new : m ≤ 16 → 0 < s → Fine (new_board m n s) new_stages (λ x. 0)
   fine_new few stamps = record {
     shaped = record {
       ordered = record {
-        head = stage_0;
+        head = grind arith;
         falls = λ x l d. grind arith;
         down = λ x l. grind arith;
         single = λ x y kx ky e d. grind arith;

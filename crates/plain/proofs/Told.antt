@@ -67,9 +67,6 @@ told_silent b a m silent same = record {
   keeps = λ r i ns nl ne no_step. same r i nl;
   steps = λ r. grind arith;
 }
-  where
-    not_by : (c : Call) → m.call ≡ c → walks c ≡ true → ⊥
-    not_by c e t = grind arith
 
 -- ---- refused calls
 
@@ -84,9 +81,6 @@ told_refused b a c n k = record {
 }
 
 module _ {b : Board} {stage rank : ℕ → ℕ} (f : Fine b stage rank) (a : Area) where
-  slot_there : (r : ℕ) (s : Slot) → ((with_slot r s b).slots r).place ≡ s.place
-  slot_there r s = grind arith
-
   slot_else : (r u : ℕ) (s : Slot) → u ≢ r → ((with_slot r s b).slots u).place ≡ (b.slots u).place
   slot_else r u s n = grind arith
 
@@ -94,15 +88,11 @@ module _ {b : Board} {stage rank : ℕ → ℕ} (f : Fine b stage rank) (a : Are
 
   told_from : (making : Making) (r k : ℕ) → b.who.inside r ≡ true → Told b a (moment (Call.from r k) (accepted making b a (Call.from r k)))
   told_from making r k i = record {
-    beholds = λ u x t. absurd (elim (sights_call t) [ inl e ↦ cc | inr e ↦ cc ]);
+    beholds = λ u x t. elim (sights_call t) [ inl e ↦ cc | inr e ↦ cc ];
     treads = λ u x t. cc (steps_call t);
     ends = λ u t. cc;
-    begins = λ u t.
-        let e : r ≡ u = cc in (
-          rw e at i,
-          subst (λ (v : ℕ). ((with_slot r (record { walk = Walk.for_key k; place = 0 }) b).slots v).place ≡ 0) e (slot_there r (record { walk = Walk.for_key k; place = 0 })),
-        );
-    keeps = λ u iu ns nl ne no_step. slot_else r u (record { walk = Walk.for_key k; place = 0 }) (λ e. ns (record { wanted = k; asked = ap (λ (v : ℕ). Call.from v k) (sym e); granted = refl }));
+    begins = λ u t. let e : r ≡ u = cc in (rw e at i, grind arith);
+    keeps = λ u iu ns nl ne no_step. grind arith;
     steps = λ u. inr ((λ x t. cc (steps_call t)), (λ t. cc));
   }
 
@@ -154,9 +144,7 @@ module _ {b : Board} {stage rank : ℕ → ℕ} (f : Fine b stage rank) (a : Are
         beholds = λ u x t. (by_step t, refl);
         treads = λ u x t.
             let o = only u x t in
-            let node : z ≡ x.node = ap (λ (y : Sighting). y.node) o.1 in
-            subst (λ (v : ℕ). (link_of b.pool (b.slots v).place ≡ x.node) × (((with_slot r s b).slots v).place ≡ x.node)) o.0
-            (node, grind arith);
+            grind arith;
         ends = λ u t. grind arith;
         begins = λ u t. cc;
         keeps = λ u iu ns nl ne' no_step. grind arith;
