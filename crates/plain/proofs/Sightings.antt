@@ -55,7 +55,7 @@ module _ {b : Board} {a : Area} {stage rank : ℕ → ℕ} {m : Moment} (f : Fin
 
   -- who leaves, sights nothing by it
   sights_stays : {r : ℕ} {x : Sighting} → Sights r x m → ¬ (Leaves r m)
-  sights_stays (Sights.by_step t) l = let q = steps_call t in cc
+  sights_stays (Sights.by_step t) l = cc (steps_call t)
   sights_stays (Sights.by_aside w n s k v e q y) l = cc
 
   pub still_stands : {h : History} (r : ℕ) (x : Sighting) → (Sighted r x h → Stands b a stage r x) → Sighted r x (m ∷ h) → Stands m.board m.area n.stage' r x

@@ -1,6 +1,6 @@
 -- Uses of a board by a list of calls, and what is not in a history. Assumes nothing.
-use Rattle.std.proofs.Common.{◌≡◌, ℕ, List, [], ◌∷◌, replicate, pos, inl}
-use Rattle.scheme.specs.Histories.{Any, Since}
+use Rattle.std.proofs.Common.{◌≡◌, ℕ, List, [], ◌∷◌, replicate, inl}
+use Rattle.scheme.specs.Histories.{Since}
 use Rattle.plain.specs.Boards.{Board, Area, new_board}
 use Rattle.plain.specs.Calls.{Call, Answer}
 use Rattle.plain.specs.Plain.{make}
@@ -46,8 +46,7 @@ module _ {r : ℕ} {m : Moment} where
 
   -- past a step that has seen a node
   pub past_seen : (n s k : ℕ) {w : History} → m.call ≡ Call.step r → m.answer ≡ Answer.seen n s k → Walking r w → Walking r (m ∷ w)
-  past_seen n s k c a w =
-      Walking.goes_on (λ e. cc) (λ e. cc) (λ e. cc) (λ e. cc) w
+  past_seen n s k c a w = Walking.goes_on (λ e. cc) (λ e. cc) (λ e. cc) (λ e. cc) w
 
   -- ---- a key is not stepped on
 
@@ -59,7 +58,7 @@ module _ {r : ℕ} {m : Moment} where
   on_other n s j a (StepsOn.by_found n' s' k' c q) = cc
 
   pub other_key : (n s j k : ℕ) → m.answer ≡ Answer.seen n s j → ¬ (j ≡ k) → ¬ (StepsOnKey r k m)
-  other_key n s j k a d o = let e = on_other n s j a o.on in let q = o.key in d (cc)
+  other_key n s j k a d o = d (cc (on_other n s j a o.on))
 
   on_none : {x : Sighting} → m.answer ≡ Answer.end → StepsOn r m x → ⊥
   on_none a (StepsOn.by_seen n' s' k' c q) = cc
