@@ -8,8 +8,6 @@ use Rattle.scheme.specs.Meaning.{Meaning, Sound, anybody, entered, left, begun, 
 use Rattle.scheme.specs.Polls.{on_poll}
 use Rattle.scheme.specs.Sets.{none_in}
 use Rattle.plain.proofs.Changed.{changed_at, changed_elsewhere}
-use Rattle.scheme.proofs.Polls.{known_awaited}
-use Rattle.scheme.proofs.Histories.{enter_sound, leave_sound}
 use Rattle.record.specs.Making.{Making}
 use Rattle.plain.specs.Pools.{Pool, is_empty, needs_begin, covering, freeing}
 use Rattle.plain.specs.Boards.{Board, Area, Slot, at_rest, with_pool, with_slot, with_who}
@@ -119,7 +117,7 @@ module _ {b : Board} {stage rank : ℕ → ℕ} (f : Fine b stage rank) (a : Are
 
   pub reader_enters : (making : Making) (r : ℕ) → r < b.readers → b.who.inside r ≡ false → Follows b a stage (moment (Call.enter r) (accepted making b a (Call.enter r)))
   reader_enters making r l out =
-      rw in_now (reader_turns (Call.enter r) r (entered b.who r) (rw in_now at (enter_sound r b.who f.sound)) refl
+      rw in_now (reader_turns (Call.enter r) r (entered b.who r) (grind arith) refl
       (λ u n. (grind arith, changed_elsewhere b.who.awaited r u false n))
       (λ u i n e. cc))
     where
@@ -128,7 +126,7 @@ module _ {b : Board} {stage rank : ℕ → ℕ} (f : Fine b stage rank) (a : Are
 
   pub reader_leaves : (making : Making) (r : ℕ) → b.who.inside r ≡ true → Follows b a stage (moment (Call.leave r) (accepted making b a (Call.leave r)))
   reader_leaves making r inside =
-      rw out_now (reader_turns (Call.leave r) r (left b.who r) (rw out_now at (leave_sound r b.who f.sound)) refl
+      rw out_now (reader_turns (Call.leave r) r (left b.who r) (grind arith) refl
       (λ u n. (grind arith, changed_elsewhere b.who.awaited r u false n))
       (λ u i n e. n (ap Call.leave (sym e), refl)))
     where
@@ -176,7 +174,7 @@ module _ {b : Board} {stage rank : ℕ → ℕ} (f : Fine b stage rank) (a : Are
       closed_now = rw (e, g)
 
       gone : (u : ℕ) → b.who.awaited u ≡ false
-      gone = none_in b.who.awaited g (known_awaited b.who f.sound)
+      gone = none_in b.who.awaited g (λ k t. grind arith)
 
 -- what a poll can say, and when
 pub poll_cases : (m : Meaning) (P : Poll → Type 0) →
