@@ -6,7 +6,6 @@ use Rattle.scheme.specs.declared.interface.Poll.{Poll}
 use Rattle.scheme.specs.declared.interface.Poll.TheVariants.{NoWait, NotYet, Over}
 use Rattle.scheme.specs.Meaning.{Meaning, Sound, anybody, entered, left, begun, closed, on_enter, on_leave, on_begin}
 use Rattle.scheme.specs.Polls.{on_poll}
-use Rattle.scheme.specs.Sets.{none_in}
 use Rattle.plain.proofs.Changed.{changed_at, changed_elsewhere}
 use Rattle.record.specs.Making.{Making}
 use Rattle.plain.specs.Pools.{Pool, is_empty, needs_begin, covering, freeing}
@@ -19,6 +18,11 @@ use Rattle.plain.proofs.Links.{raised}
 use Rattle.plain.proofs.Shape.{Shaped, Guarded, Turned}
 use Rattle.plain.proofs.Placing.{Turn}
 use Rattle.plain.proofs.Grace.{begin_shaped, over_shaped, over_turned}
+
+-- if nobody is in a set, no reader is
+none_in : (f : ℕ → Bool) → anybody f ≡ false → (k : ℕ) → k < 16 → f k ≡ false
+unfolding anybody
+none_in f e k l = grind arith
 
 pub record Fine (b : Board) (stage rank : ℕ → ℕ) : Type 0 where
   pub shaped : Shaped b.size b.pool stage rank
@@ -174,7 +178,7 @@ module _ {b : Board} {stage rank : ℕ → ℕ} (f : Fine b stage rank) (a : Are
       closed_now = rw (e, g)
 
       gone : (u : ℕ) → b.who.awaited u ≡ false
-      gone = none_in b.who.awaited g (λ k t. grind arith)
+      gone u = grind (arith, none_in b.who.awaited g u)
 
 -- what a poll can say, and when
 pub poll_cases : (m : Meaning) (P : Poll → Type 0) →

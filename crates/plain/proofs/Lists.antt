@@ -82,6 +82,7 @@ count_all : (n : ℕ) → count_below (left_out []) n ≡ n
 count_all zero = refl
 count_all (suc n) = let rest = count_all n in let last : one true ≡ 1 = refl in omega arith
 
+-- the next lemma, from n to suc n
 one_further : (n x : ℕ) (has : ℕ → Bool) (a b : ℕ) → has (suc x) ≡ false → a + one (ltb x n) ≡ b →
     a + one (not (eqb (suc n) (suc x) || has (suc n))) + one (ltb x (suc n)) ≡ b + one (not (has (suc n)))
 one_further n x has a b d e = grind arith
