@@ -1,12 +1,16 @@
 -- A wait begins, and is found over:
 -- the pool is sound again, and a reader that was not awaited stands on no node that is freed. Assumes nothing.
 use Rattle.std.proofs.Common.{◌≡◌, ℕ, Bool, false, [], refl, inl, arith}
-use Rattle.plain.specs.Pools.{Pool, covering, freeing}
+use Rattle.plain.specs.Pools.{Pool, Move, Need, covering, freeing, at_over}
 use Rattle.plain.specs.Boards.{Area}
 use Rattle.plain.proofs.Links.{raised}
 use Rattle.plain.proofs.Lists.{in_left, in_right}
-use Rattle.plain.proofs.Shape.{Shaped, Somewhere, Carried, Turned}
+use Rattle.plain.proofs.Shape.{Shaped, Somewhere, Carried, Turned, Owed}
 use Rattle.plain.proofs.Books.{books_begin, books_over}
+
+owed_over : (m : Move) (aw aw' : Bool) (x : ℕ) → aw ≡ false → Owed (at_over m) aw' x → Owed m aw x
+owed_over (Move.earlier o c Need.begun) aw aw' x e w = (e, w)
+owed_over m aw aw' x e w = w
 
 module _ {size : ℕ} {q : Pool} {stage rank : ℕ → ℕ} (s : Shaped size q stage rank) where
   over_somewhere : (x : ℕ) → Somewhere q x → Somewhere (freeing q) x
@@ -40,5 +44,5 @@ module _ {size : ℕ} {q : Pool} {stage rank : ℕ → ℕ} (s : Shaped size q s
     guards = λ x g. record { live = grind arith; waits = λ w. grind arith };
     back = λ x z l b. inl b;
     fwd = λ x z l b. Carried.stays b;
-    owed = λ c w. grind arith;
+    owed = λ c w. (owed_over q.move aw aw' c e w, λ x b. b);
   }
