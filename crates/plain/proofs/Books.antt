@@ -1,7 +1,7 @@
 -- The kinds, the three chains and the stamps through each change of a pool:
 -- a node is filled, one is removed, a wait begins, a wait is found over; and on a new board. Assumes nothing.
 use Rattle.std.proofs.Common.{◌≡◌, ℕ, suc, ◌<◌, ◌≤◌, ◌≢◌, ◌∷◌, refl, arith}
-use Rattle.plain.specs.Changed.{changed}
+use Rattle.scheme.specs.Meaning.{updated}
 use Rattle.plain.specs.Pools.{Pool, covering, freeing}
 use Rattle.plain.specs.Boards.{new_board}
 use Rattle.plain.proofs.Links.{raised}
@@ -24,7 +24,7 @@ module _ {size : ℕ} {q q' : Pool} {stage : ℕ → ℕ} {y : ℕ} (k : Books s
   free_apart : Apart (y ∷ q'.free)
   free_apart = rw f.free at k.apart_free
 
-  pub books_fill : Books size q' (changed stage y 0)
+  pub books_fill : Books size q' (updated stage y 0)
   books_fill = record {
     bounded = λ x l. grind (arith, fresh);
     in_free = λ x i.
@@ -49,7 +49,7 @@ pub record Retires (q q' : Pool) (x : ℕ) : Type 0 where
   pub stamp : (z : ℕ) → q'.stamp z ≡ q.stamp z
 
 module _ {size : ℕ} {q q' : Pool} {stage : ℕ → ℕ} {x : ℕ} (k : Books size q stage) (f : Retires q q' x) (kx : stage x ≡ 0) where
-  pub books_retire : Books size q' (changed stage x 1)
+  pub books_retire : Books size q' (updated stage x 1)
   books_retire = record {
     bounded = λ z l. grind arith;
     in_free = λ z i. grind arith;
@@ -94,7 +94,7 @@ books_over {q = q} {stage = stage} k = record {
 
 -- place 0 is as listed, and every node is free
 abbrev pub new_stages : ℕ → ℕ
-new_stages = changed (λ x. 3) 0 0
+new_stages = updated (λ x. 3) 0 0
 
 pub books_new : (m n s : ℕ) → 0 < s → Books n (new_board m n s).pool new_stages
 books_new m n s h = record {

@@ -6,7 +6,7 @@ use Rattle.scheme.specs.declared.interface.Poll.{Poll}
 use Rattle.scheme.specs.declared.interface.Poll.TheVariants.{NoWait, NotYet, Over}
 use Rattle.scheme.specs.Meaning.{Meaning, Sound, anybody, entered, left, begun, closed, on_enter, on_leave, on_begin}
 use Rattle.scheme.specs.Polls.{on_poll}
-use Rattle.plain.proofs.Changed.{changed_at, changed_elsewhere}
+use Rattle.scheme.proofs.Sets.{updated_at, updated_elsewhere}
 use Rattle.record.specs.Making.{Making}
 use Rattle.plain.specs.Pools.{Pool, is_empty, needs_begin, covering, freeing}
 use Rattle.plain.specs.Boards.{Board, Area, Slot, at_rest, with_pool, with_slot, with_who}
@@ -79,8 +79,8 @@ module _ {b : Board} {stage rank : ℕ → ℕ} (f : Fine b stage rank) (a : Are
       sound = f.sound;
       few = f.few;
       rests = λ u i. elim (cases_eq u r) [
-        | inl e ↦ rw (changed_at b.slots r u s e) (rw e g)
-        | inr n ↦ rw (changed_elsewhere b.slots r u s n) (f.rests u i)
+        | inl e ↦ rw (updated_at b.slots r u s e) (rw e g)
+        | inr n ↦ rw (updated_elsewhere b.slots r u s n) (f.rests u i)
       ];
       idle = f.idle;
     };
@@ -107,10 +107,10 @@ module _ {b : Board} {stage rank : ℕ → ℕ} (f : Fine b stage rank) (a : Are
       sound = sound;
       few = f.few;
       rests = λ u i. elim (cases_eq u r) [
-        | inl e ↦ rw (changed_at b.slots r u at_rest e) (at_head (w.awaited u))
+        | inl e ↦ rw (updated_at b.slots r u at_rest e) (at_head (w.awaited u))
         | inr n ↦
             let o = same u n in
-            rw (changed_elsewhere b.slots r u at_rest n) (rw o.1 (f.rests u (cc)))
+            rw (updated_elsewhere b.slots r u at_rest n) (rw o.1 (f.rests u (cc)))
       ];
       idle = λ e. f.idle (cc);
     };
@@ -122,7 +122,7 @@ module _ {b : Board} {stage rank : ℕ → ℕ} (f : Fine b stage rank) (a : Are
   pub reader_enters : (making : Making) (r : ℕ) → r < b.readers → b.who.inside r ≡ false → Follows b a stage (moment (Call.enter r) (accepted making b a (Call.enter r)))
   reader_enters making r l out =
       rw in_now (reader_turns (Call.enter r) r (entered b.who r) (grind arith) refl
-      (λ u n. (grind arith, changed_elsewhere b.who.awaited r u false n))
+      (λ u n. (grind arith, updated_elsewhere b.who.awaited r u false n))
       (λ u i n e. cc))
     where
       in_now : (on_enter r b.who).next ≡ entered b.who r
@@ -131,7 +131,7 @@ module _ {b : Board} {stage rank : ℕ → ℕ} (f : Fine b stage rank) (a : Are
   pub reader_leaves : (making : Making) (r : ℕ) → b.who.inside r ≡ true → Follows b a stage (moment (Call.leave r) (accepted making b a (Call.leave r)))
   reader_leaves making r inside =
       rw out_now (reader_turns (Call.leave r) r (left b.who r) (grind arith) refl
-      (λ u n. (grind arith, changed_elsewhere b.who.awaited r u false n))
+      (λ u n. (grind arith, updated_elsewhere b.who.awaited r u false n))
       (λ u i n e. n (ap Call.leave (sym e), refl)))
     where
       out_now : (on_leave r b.who).next ≡ left b.who r

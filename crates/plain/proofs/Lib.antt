@@ -3,7 +3,6 @@ pub mod Lists
 pub mod Links
 pub mod Reached
 -- the pool
-pub mod Changed
 pub mod Writes
 pub mod Shape
 pub mod Books

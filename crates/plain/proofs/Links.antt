@@ -2,7 +2,7 @@
 -- What splicing a node in, skipping one, and the start and the end of a wait do to them. Assumes nothing.
 use Rattle.std.proofs.Common.{◌≡◌, ℕ, suc, ◌+◌, ◌*◌, ◌<◌, ◌≤◌, cond, eqb, ◌≢◌, ◌⊎◌, sym, ap, ◌∙◌, subst, inl, inr, arith}
 use Rattle.std.proofs.lemmas.Bool.{cases_eq}
-use Rattle.plain.specs.Changed.{changed}
+use Rattle.scheme.specs.Meaning.{updated}
 
 -- z is reached from the place x by one link or more
 pub data Ahead (lk : ℕ → ℕ) (z : ℕ) : ℕ → Type 0 where
@@ -116,7 +116,7 @@ module _ {lk lk' stage rank : ℕ → ℕ} (o : Ordered lk stage rank) (p y : �
   splice_back l a = (splice_back_both a).1 l
 
   -- the stages and ranks with y listed
-  pub splice_ordered : Ordered lk' (changed stage y 0) (changed (λ x. 2 * rank x + 2) y (2 * rank p + 1))
+  pub splice_ordered : Ordered lk' (updated stage y 0) (updated (λ x. 2 * rank x + 2) y (2 * rank p + 1))
   splice_ordered = record {
     head = grind arith;
     falls = λ x l n. grind arith;
@@ -178,7 +178,7 @@ module _ {lk lk' stage rank : ℕ → ℕ} (o : Ordered lk stage rank) (p : ℕ)
       ]
 
   -- the stages with the skipped node due
-  pub skip_ordered : Ordered lk' (changed stage (lk p) 1) rank
+  pub skip_ordered : Ordered lk' (updated stage (lk p) 1) rank
   skip_ordered = record {
     head = grind arith;
     falls = λ u l n. grind arith;

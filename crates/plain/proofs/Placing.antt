@@ -1,8 +1,8 @@
 -- A node is put on the list, by a put or a move:
 -- the pool is sound again, and readers can tell no more than Turned says. Assumes nothing.
 use Rattle.std.proofs.Common.{◌≡◌, ℕ, ◌+◌, ◌*◌, ◌<◌, ◌≤◌, Bool, ◌≢◌, ◌⊎◌, List, ◌∷◌, sym, refl, ap, ◌∙◌, inl, inr, arith}
-use Rattle.plain.specs.Changed.{changed}
-use Rattle.plain.proofs.Changed.{changed_elsewhere}
+use Rattle.scheme.specs.Meaning.{updated}
+use Rattle.scheme.proofs.Sets.{updated_elsewhere}
 use Rattle.plain.specs.Pools.{Pool, Move, link_of, filled, placed_behind, with_move, head_or_0, old_of}
 use Rattle.plain.specs.Boards.{Area, Record, with_record}
 use Rattle.plain.proofs.Links.{Ahead, next_at, ahead_ne, ahead_from, ahead_to, ahead_trans, Ordered, Spliced, splice_fwd, splice_back, splice_ordered}
@@ -66,9 +66,9 @@ module _ {size : ℕ} {q : Pool} {stage rank : ℕ → ℕ} (s : Shaped size q s
   }
 
   abbrev stage₁ : ℕ → ℕ
-  stage₁ = changed stage y 0
+  stage₁ = updated stage y 0
 
-  ordered₁ : Ordered (link_of q₁) stage₁ (changed (λ x. 2 * rank x + 2) y (2 * rank p + 1))
+  ordered₁ : Ordered (link_of q₁) stage₁ (updated (λ x. 2 * rank x + 2) y (2 * rank p + 1))
   ordered₁ = splice_ordered s.ordered p y spliced kp fresh.0
 
   pub still_ahead : {z x : ℕ} → stage x < 3 → Ahead (link_of q) z x → Ahead (link_of q₁) z x
@@ -125,7 +125,7 @@ module _ {size : ℕ} {q : Pool} {stage rank : ℕ → ℕ} (s : Shaped size q s
   unfolding KeysApart
   placing a v o new mv none = record {
     stage' = stage₁;
-    rank' = changed (λ x. 2 * rank x + 2) y (2 * rank p + 1);
+    rank' = updated (λ x. 2 * rank x + 2) y (2 * rank p + 1);
     shaped = record { ordered = ordered₁; books = books_fill s.books fills; keys_apart = keys_apart₁ o new; moved = mv; somewhere = λ x n l. still_somewhere x (s.somewhere x n l) };
     covered = refl;
     turned = λ aw. record {
@@ -135,7 +135,7 @@ module _ {size : ℕ} {q : Pool} {stage rank : ℕ → ℕ} (s : Shaped size q s
         fields = record_stays a y x v y_ne n (live_ne x l);
       };
       guards = λ x g.
-          let e = changed_elsewhere stage y x 0 (live_ne x g.live) in
+          let e = updated_elsewhere stage y x 0 (live_ne x g.live) in
           let l = g.live in
           record { live = omega arith; waits = λ w. g.waits (cc) };
       back = λ x z l b. elim (splice_back s.ordered p y spliced kp fresh.0 l b) [

@@ -2,8 +2,8 @@
 -- the pool is sound again, and readers can tell no more than Turned says. Assumes nothing.
 use Rattle.std.proofs.Common.{◌≡◌, ℕ, ◌+◌, ◌*◌, ◌<◌, ◌≤◌, Bool, ◌≢◌, ◌⊎◌, List, ◌∷◌, sym, refl, ap, ◌∙◌, inl, inr, arith}
 use Rattle.std.proofs.lemmas.Bool.{cases_eq}
-use Rattle.plain.specs.Changed.{changed}
-use Rattle.plain.proofs.Changed.{changed_at, changed_elsewhere}
+use Rattle.scheme.specs.Meaning.{updated}
+use Rattle.scheme.proofs.Sets.{updated_at, updated_elsewhere}
 use Rattle.plain.specs.Pools.{Pool, Move, link_of, link_to, filled, unlinked, retired, with_move, head_or_0, old_of, before, reached}
 use Rattle.plain.specs.Boards.{Area, Record, with_record}
 use Rattle.plain.proofs.Links.{Ahead, next_at, ahead_ne, ahead_to, ahead_trans, ahead_stage, Ordered, Spliced, Skipped, splice_fwd, splice_back, splice_ordered, skip_fwd, skip_back, skip_lost, skip_ordered}
@@ -40,10 +40,10 @@ module _ {size : ℕ} {q : Pool} {stage rank : ℕ → ℕ} (s : Shaped size q s
   head_live : stage 0 < 3
   head_live = omega arith
 
-  due_kept : (aw : Bool) (z : ℕ) → Guarded stage aw z → Guarded (changed stage x 1) aw z
+  due_kept : (aw : Bool) (z : ℕ) → Guarded stage aw z → Guarded (updated stage x 1) aw z
   due_kept aw z g = elim (cases_eq z x) [
-    | inl e ↦ let w = changed_at stage x z 1 e in record { live = omega arith; waits = λ v. absurd (omega arith) }
-    | inr n ↦ let w = changed_elsewhere stage x z 1 n in record { live = omega arith; waits = λ v. g.waits (cc) }
+    | inl e ↦ let w = updated_at stage x z 1 e in record { live = omega arith; waits = λ v. absurd (omega arith) }
+    | inr n ↦ let w = updated_elsewhere stage x z 1 n in record { live = omega arith; waits = λ v. g.waits (cc) }
   ]
 
   -- ---- x alone goes
@@ -67,7 +67,7 @@ module _ {size : ℕ} {q : Pool} {stage rank : ℕ → ℕ} (s : Shaped size q s
       stamp = λ z. refl;
     }
 
-    ordered₁ : Ordered (link_of q₁) (changed stage x 1) rank
+    ordered₁ : Ordered (link_of q₁) (updated stage x 1) rank
     ordered₁ = rw p_links at (skip_ordered s.ordered p skipped kp p_links_ne)
 
     pub was_ahead : {z u : ℕ} → Ahead (link_of q₁) z u → Ahead (link_of q) z u
@@ -78,7 +78,7 @@ module _ {size : ℕ} {q : Pool} {stage rank : ℕ → ℕ} (s : Shaped size q s
 
     pub not_listed : {z : ℕ} → Ahead (link_of q₁) z 0 → z ≢ x
     not_listed a e =
-        omega (arith, ahead_stage ordered₁ (let w = ordered₁.head in omega arith) a, ordered₁.head, changed_at stage x _ 1 e)
+        omega (arith, ahead_stage ordered₁ (let w = ordered₁.head in omega arith) a, ordered₁.head, updated_at stage x _ 1 e)
 
     still_somewhere : (z : ℕ) → Somewhere q z → Somewhere q₁ z
     still_somewhere z (Somewhere.on_list c) = elim (cases_eq z x) [
@@ -96,7 +96,7 @@ module _ {size : ℕ} {q : Pool} {stage rank : ℕ → ℕ} (s : Shaped size q s
         ((u : ℕ) → stage u < 3 → Ahead (link_of q) x u → Carried q q₁ u x) →
         Turn size q q₁ a a stage
     removing a apart mv none lost = record {
-      stage' = changed stage x 1;
+      stage' = updated stage x 1;
       rank' = rank;
       shaped = record {
         ordered = ordered₁;
@@ -151,11 +151,11 @@ module _ {size : ℕ} {q : Pool} {stage rank : ℕ → ℕ} (s : Shaped size q s
 
     -- the links with y put behind p, before x is skipped
     lk : ℕ → ℕ
-    lk = changed (changed (link_of q) y x) p y
+    lk = updated (updated (link_of q) y x) p y
 
     lk_y : lk y ≡ x
     unfolding lk
-    lk_y = changed_elsewhere (changed (link_of q) y x) p y y (λ e. p_ne (sym e)) ∙ changed_at (link_of q) y y x refl
+    lk_y = updated_elsewhere (updated (link_of q) y x) p y y (λ e. p_ne (sym e)) ∙ updated_at (link_of q) y y x refl
 
     lk_p : (z : ℕ) → z ≡ p → lk z ≡ y
     unfolding lk
@@ -183,13 +183,13 @@ module _ {size : ℕ} {q : Pool} {stage rank : ℕ → ℕ} (s : Shaped size q s
     }
 
     abbrev stage₁ : ℕ → ℕ
-    stage₁ = changed stage y 0
+    stage₁ = updated stage y 0
 
     abbrev rank₁ : ℕ → ℕ
-    rank₁ = changed (λ z. 2 * rank z + 2) y (2 * rank p + 1)
+    rank₁ = updated (λ z. 2 * rank z + 2) y (2 * rank p + 1)
 
     abbrev stage₂ : ℕ → ℕ
-    stage₂ = changed stage₁ x 1
+    stage₂ = updated stage₁ x 1
 
     middle : Ordered lk stage₁ rank₁
     middle = splice_ordered s.ordered p y put_in kp fresh.0
@@ -244,21 +244,21 @@ module _ {size : ℕ} {q : Pool} {stage rank : ℕ → ℕ} (s : Shaped size q s
     retires₂ = record { free = refl; due = refl; covered = refl; next_stamp = refl; stamp = λ z. refl }
 
     books₂ : Books size q₂ stage₂
-    books₂ = books_retire (books_fill s.books fills) retires₂ (changed_elsewhere stage y x 0 x_ne ∙ kx)
+    books₂ = books_retire (books_fill s.books fills) retires₂ (updated_elsewhere stage y x 0 x_ne ∙ kx)
 
     not_x : {z : ℕ} → Ahead (link_of q₂) z 0 → z ≢ x
     not_x a e =
         let w = ordered₂.head in
         let n = ahead_stage ordered₂ (omega arith) a in
-        let v = changed_at stage₁ x _ 1 e in
+        let v = updated_at stage₁ x _ 1 e in
         omega arith
 
     guards₂ : (aw : Bool) (z : ℕ) → Guarded stage aw z → Guarded stage₂ aw z
     guards₂ aw z g =
-        let e = changed_elsewhere stage y z 0 (live_ne z g.live) in
+        let e = updated_elsewhere stage y z 0 (live_ne z g.live) in
         elim (cases_eq z x) [
-          | inl i ↦ let w = changed_at stage₁ x z 1 i in record { live = omega arith; waits = λ v. absurd (omega arith) }
-          | inr n ↦ let w = changed_elsewhere stage₁ x z 1 n in record { live = omega arith; waits = λ v. g.waits (cc) }
+          | inl i ↦ let w = updated_at stage₁ x z 1 i in record { live = omega arith; waits = λ v. absurd (omega arith) }
+          | inr n ↦ let w = updated_elsewhere stage₁ x z 1 n in record { live = omega arith; waits = λ v. g.waits (cc) }
         ]
 
     lost : (u : ℕ) → stage u < 3 → q.key x ≡ k → Ahead (link_of q) x u → Carried q q₂ u x

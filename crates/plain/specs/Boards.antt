@@ -1,8 +1,7 @@
 -- The plain board: a scheme's meaning, a slot for each reader, and the pool; the record area beside it. Assumes nothing.
 use Rattle.std.specs.Prelude.{ℕ, ◌-◌, Bool, true, false, not, ◌&&◌, ◌||◌, ◌⊎◌, List, [], ℤ, ◌==◌, if◌then◌else◌, slice_index_or, slice_set}
 use Rattle.std.proofs.Common.{inl, inr}
-use Rattle.scheme.specs.Meaning.{Meaning, at_start}
-use Rattle.plain.specs.Changed.{changed}
+use Rattle.scheme.specs.Meaning.{Meaning, at_start, updated}
 use Rattle.plain.specs.Pools.{Pool, Move, link_of, reached, holder, before, precedes, upto}
 
 -- ---- readers
@@ -58,7 +57,7 @@ new_board m n s = record {
 }
 
 abbrev pub with_slot : ℕ → Slot → Board → Board
-with_slot r s b = record b { slots = changed b.slots r s }
+with_slot r s b = record b { slots = updated b.slots r s }
 
 abbrev pub with_who : Meaning → Board → Board
 with_who w b = record b { who = w }

@@ -1,4 +1,3 @@
-pub mod Changed
 pub mod Pools
 pub mod Boards
 pub mod Calls

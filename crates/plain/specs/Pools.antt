@@ -1,6 +1,6 @@
 -- The pool of nodes: the list, the three chains, the stamps, and the move that is under way. Assumes nothing.
 use Rattle.std.specs.Prelude.{ℕ, zero, suc, Bool, true, false, List, [], ◌∷◌, ◌++◌, ◌==◌, if◌then◌else◌}
-use Rattle.plain.specs.Changed.{changed}
+use Rattle.scheme.specs.Meaning.{updated}
 
 -- ---- chains of node numbers
 
@@ -106,15 +106,15 @@ precedes x y (z ∷ zs) = if z == y then false else if z == x then true else pre
 abbrev pub link_to : ℕ → ℕ → Pool → Pool
 link_to p v q = record q {
   front = if p == 0 then v else q.front;
-  link = if p == 0 then q.link else changed q.link p v;
+  link = if p == 0 then q.link else updated q.link p v;
 }
 
 -- the first free node gets the key k, the next stamp and the link v
 abbrev pub filled : ℕ → ℕ → Pool → Pool
 filled k v q = record q {
-  link = changed q.link (head_or_0 q.free) v;
-  key = changed q.key (head_or_0 q.free) k;
-  stamp = changed q.stamp (head_or_0 q.free) q.next_stamp;
+  link = updated q.link (head_or_0 q.free) v;
+  key = updated q.key (head_or_0 q.free) k;
+  stamp = updated q.stamp (head_or_0 q.free) q.next_stamp;
   free = tail q.free;
   next_stamp = suc q.next_stamp;
 }

@@ -9,7 +9,7 @@ use Rattle.scheme.specs.Meaning.{Meaning, Sound, anybody, at_start, on_enter, on
 use Rattle.scheme.specs.Polls.{on_poll}
 use Rattle.scheme.specs.Scripts.{answer_to, after_call, after, answers}
 use Rattle.scheme.specs.Histories.{Any, Since, moment, History, recorded, Leaves, Begins, FindsOver, Visiting, Waiting, Open, AllGone, PolledRight, Right, Lawful}
-use Rattle.scheme.specs.Sets.{somebody, none_in}
+use Rattle.scheme.proofs.Sets.{somebody, none_in}
 use Rattle.scheme.proofs.Polls.{known_awaited}
 
 -- the plain meaning after a history that calls on it can have
@@ -31,9 +31,12 @@ begin_sound m s = search rules
 pub poll_sound : (m : Meaning) → Sound m → Sound (on_poll m).next
 poll_sound m s = search rules
 
+pub call_sound : (c : Call) (m : Meaning) → Sound m → Sound (after_call c m)
+call_sound c m s = search (rules, enter_sound, leave_sound, begin_sound, poll_sound)
+
 pub sound : {h : History} {m : Meaning} → Runs h m → Sound m
 sound Runs.new = search rules
-sound (Runs.called run c) = search (rules, sound run)
+sound (Runs.called run c) = call_sound c _ (sound run)
 
 -- ---- who is inside, and whether a wait is open
 

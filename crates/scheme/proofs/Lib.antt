@@ -4,3 +4,5 @@ pub mod Scripts
 pub mod Histories
 pub mod Words
 pub mod Phases
+pub mod Sets
+pub mod Counts

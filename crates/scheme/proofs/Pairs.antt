@@ -10,7 +10,7 @@ use Rattle.scheme.specs.declared.interface.Poll.TheVariants.{NotYet, Over}
 use Rattle.scheme.specs.Meaning.{Meaning, Sound, Follows, anybody}
 use Rattle.scheme.specs.Polls.{on_poll, says_not_yet}
 use Rattle.scheme.specs.Halves.{side_by_side, joined, Joins}
-use Rattle.scheme.specs.Sets.{Somebody, somebody, same_meaning}
+use Rattle.scheme.proofs.Sets.{Somebody, somebody, same_meaning}
 use Rattle.scheme.proofs.Polls.{says_awaited, inside_stays, awaited_stay}
 
 -- ---- both

@@ -3,7 +3,7 @@ use Rattle.std.proofs.Common.{◌≡◌, ℕ, ◌<◌, true, arith}
 use Rattle.std.proofs.lemmas.Bool.Decides.{nat_tests}
 use Rattle.scheme.specs.Meaning.{Meaning, Sound, anybody}
 use Rattle.scheme.specs.Polls.{on_poll, says_not_yet}
-use Rattle.scheme.specs.Sets.{none_in, nobody_in}
+use Rattle.scheme.proofs.Sets.{none_in, nobody_in}
 
 -- a poll says not yet exactly when somebody is awaited
 pub says_awaited : (m : Meaning) → Sound m → says_not_yet (on_poll m).answer ≡ anybody m.awaited

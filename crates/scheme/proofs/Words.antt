@@ -7,7 +7,7 @@ use Rattle.std.proofs.lemmas.Bool.Decides.{nat_tests}
 use Rattle.std.proofs.lemmas.Nat.Bits.{bit_at-zero, bit_at-lt, shr_and_one, bit_at_set_same, bit_at_set_other, bit_at_clear_same, bit_at_clear_other, same_from_bits_below}
 use Rattle.scheme.specs.Meaning.{nobody, updated, anybody}
 use Rattle.scheme.specs.ReaderSets.{has_bit}
-use Rattle.scheme.specs.Sets.{none_in, nobody_in}
+use Rattle.scheme.proofs.Sets.{none_in, nobody_in}
 use Rattle.scheme.specs.Words.{bits_known}
 
 pub no_bit : has_bit 0 ≡ nobody

@@ -11,6 +11,4 @@ pub mod Texts
 pub mod Histories
 pub mod Runs
 pub mod Words
-pub mod Sets
 pub mod Phases
-pub mod CountsLemmas

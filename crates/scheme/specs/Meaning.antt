@@ -25,9 +25,9 @@ pub record Sound (m : Meaning) : Type 0 where
 abbrev pub nobody : ℕ → Bool
 nobody x = false
 
--- the set f, but reader r is in it or not as b says
-abbrev pub updated : (ℕ → Bool) → ℕ → Bool → ℕ → Bool
-updated f r b x = if x == r then b else f x
+-- the function f, but at r it is v; of a set: but r is in it or not, as v says
+abbrev pub updated : {A : Type 0} → (ℕ → A) → ℕ → A → ℕ → A
+updated f r v x = if x == r then v else f x
 
 -- whether one of the numbers below n is in f
 abbrev pub anybody_below : (ℕ → Bool) → ℕ → Bool

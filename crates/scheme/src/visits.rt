@@ -27,7 +27,7 @@ pub struct Visits {
 
 impl Visits {
     // All readers are outside.
-    #[tactic(auto, using(crate::proofs::Phases::none_visiting, crate::proofs::Phases::none_under, crate::specs::CountsLemmas::number_nobody))]
+    #[tactic(auto, using(crate::proofs::Phases::none_visiting, crate::proofs::Phases::none_under, crate::proofs::Counts::number_nobody))]
     pub fn none() -> Visits
         ensures inside { visiting result.table ≡ nobody }
         ensures phases { (p : PhaseNumber) → under result.table p ≡ nobody }

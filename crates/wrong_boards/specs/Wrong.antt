@@ -1,7 +1,6 @@
 -- Boards with one fault each, made from the plain board. Assumes nothing.
 use Rattle.std.specs.Prelude.{Bool, not, ◌&&◌, [], ◌++◌, length, nat_lt, if◌then◌else◌}
-use Rattle.scheme.specs.Meaning.{Meaning, nobody}
-use Rattle.plain.specs.Changed.{changed}
+use Rattle.scheme.specs.Meaning.{Meaning, nobody, updated}
 use Rattle.record.specs.Pars.{par_making}
 use Rattle.plain.specs.Pools.{Pool, head_or_0, under_way, needs_begin, at_begin, at_over, with_move}
 use Rattle.plain.specs.Boards.{Board, at_rest, with_who, with_pool}
@@ -62,7 +61,7 @@ repeats_stamp = spoiled placed_node (λ b res. but_pool (record res.board.pool {
 abbrev pub chains_by_link : Play
 chains_by_link = spoiled removed_node (λ b res.
     let q = res.board.pool in
-    but_pool (record q { link = changed q.link (head_or_0 q.due) (head_or_0 b.pool.due) }) res)
+    but_pool (record q { link = updated q.link (head_or_0 q.due) (head_or_0 b.pool.due) }) res)
 
 -- an earlier move counts as having had its wait
 abbrev pub moves_without_wait : Play
@@ -73,7 +72,7 @@ abbrev pub links_to_itself : Play
 links_to_itself = spoiled placed_node (λ b res.
     let q = res.board.pool in
     let new = head_or_0 b.pool.free in
-    but_pool (record q { link = changed q.link new new }) res)
+    but_pool (record q { link = updated q.link new new }) res)
 
 -- the due chain is dropped as a wait begins
 abbrev pub loses_nodes : Play

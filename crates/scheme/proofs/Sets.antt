@@ -1,13 +1,9 @@
--- Sets of readers: whether anybody is in one, and one that is changed at a reader. Assumes nothing.
-use Rattle.std.specs.Prelude.{◌≡◌, ℕ, ◌<◌, Bool, true, false, ◌↔◌, refl}
+-- Sets of readers: whether anybody is in one; a function that is changed at one number. Assumes nothing.
+use Rattle.std.specs.Prelude.{◌≡◌, ℕ, ◌<◌, Bool, true, false, ◌↔◌, ◌≢◌, refl}
+use Rattle.std.proofs.Common.{arith}
 use Rattle.std.proofs.lemmas.Bool.{false_from_ne_true}
 use Rattle.std.proofs.lemmas.Bool.Decides.{Decides-below_or}
-use Rattle.scheme.specs.Meaning.{Meaning, anybody_below, anybody}
-
--- ---- no two constructors are equal, as `cc` finds alone
-
-pub apart : ◌≡◌ {A = ℕ} 0 1 → ⊥
-apart e = cc
+use Rattle.scheme.specs.Meaning.{Meaning, updated, anybody_below, anybody}
 
 -- ---- whether anybody is in a set
 
@@ -23,6 +19,14 @@ none_in f e known k = false_from_ne_true (f k) (λ t. let some = (somebody f).1 
 
 pub nobody_in : (f : ℕ → Bool) → ((k : ℕ) → f k ≡ false) → anybody f ≡ false
 nobody_in f out = false_from_ne_true (anybody f) (λ t. let some = (somebody f).0 t in cc (out some.0))
+
+-- ---- a function that is changed at one number
+
+pub updated_at : {A : Type 0} (f : ℕ → A) (r x : ℕ) (v : A) → x ≡ r → updated f r v x ≡ v
+updated_at f r x v e = grind arith
+
+pub updated_elsewhere : {A : Type 0} (f : ℕ → A) (r x : ℕ) (v : A) → (x ≢ r) → updated f r v x ≡ f x
+updated_elsewhere f r x v ne = grind arith
 
 -- ---- meanings with equal parts are equal
 
