@@ -1,10 +1,10 @@
 // The limits of each field, and one beyond each.
-use record::{Par, Record, Way};
+use record::{MOST_FIELDS, Par, Record, Way};
 use std::process::Abort;
 use std::test::Fail;
 
 // Four numbers, and the field that is at fault, or `None` where a record is made.
-type Edge = ([i32; 4], Option<u8>);
+type Edge = ([i32; MOST_FIELDS], Option<u8>);
 
 const WAYS: [Edge; 22] = [
     ([0, 0, 0, 0], None),
@@ -67,9 +67,10 @@ fn parameters(rt: HostRuntime) {
 }
 
 // A record has the numbers that it was made of, each in its place, and no more.
-fn check_fields<R: Record>(rt: &impl Abort, numbers: [i32; 4]) -> Result<(), Fail> {
+fn check_fields<R: Record>(rt: &impl Abort, numbers: [i32; MOST_FIELDS]) -> Result<(), Fail> {
     let made = R::make(numbers)?;
     let own = &numbers[..R::field_count()];
+    // By its number, since the place of each field is what is tested.
     for i in 0..=4 {
         assert_eq!(rt; made.field(i), own.get(i).copied());
     }

@@ -1,9 +1,9 @@
 // A waypoint and a parameter are made, and one of each is refused.
-use record::{Par, Record, Way};
+use record::{MOST_FIELDS, Par, Record, Way};
 use std::io;
 
 // What came of making: the fields, or the field at fault.
-fn show<R: Record>(rt: &impl Print, numbers: [i32; 4]) -> io::Result<()> {
+fn show<R: Record>(rt: &impl Print, numbers: [i32; MOST_FIELDS]) -> io::Result<()> {
     let kind = R::own_kind();
     match R::make(numbers) {
         Ok(made) => {

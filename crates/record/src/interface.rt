@@ -1,4 +1,4 @@
-// The interface of a kind of record: its word, its number of fields, and its making.
+// The interface of a kind of record: which kind it is, how many fields it has, and its making.
 ghost use Rattle.std.specs.Prelude.{◌≡◌, ℕ, ◌≤◌, ◌↔◌, List, [], ◌∷◌, length, take, ℤ, IfOk};
 ghost use Rattle.std.proofs.Common.{inl};
 ghost use Rattle.std.specs.List.{slice_get};
@@ -9,7 +9,10 @@ ghost use Rattle.record.specs.Made.{made};
 use crate::fault::Fault;
 use crate::kind::Kind;
 
-// `make` gives only records within the limits. A kind keeps its fields private, so that nothing else gives one.
+/// The most fields that a kind may have, and so how many numbers making is handed.
+pub const MOST_FIELDS: usize = 4;
+
+/// `make` gives only records within the limits. A kind keeps its fields private, so that nothing else gives one.
 pub trait Record: Copy {
     // Which kind it is.
     ghost KIND: { Kind };
@@ -30,12 +33,12 @@ pub trait Record: Copy {
     // The limits of the kind.
     ghost within: { Self → Type 0 };
 
-    // The record of these numbers, or the first field at fault. A kind with fewer fields ignores the numbers behind its last.
-    fn make(numbers: [i32; 4]) -> Result<Self, Fault>
+    /// The record of these numbers, or the first field at fault. A kind with fewer fields ignores the numbers behind its last.
+    fn make(numbers: [i32; MOST_FIELDS]) -> Result<Self, Fault>
         ensures gives { made fields result ≡ made_of making numbers }
         ensures within { IfOk result within };
 
-    // The two constants, as functions that no kind writes anew.
+    /// The two constants, as functions that no kind writes anew.
     final fn own_kind() -> Kind
         ensures { result ≡ KIND }
     {
@@ -48,7 +51,7 @@ pub trait Record: Copy {
         Self::COUNT
     }
 
-    // The field at place i, counted from 0.
+    /// The field at place i, counted from 0.
     fn field(&self, i: usize) -> Option<i32>
         ensures { result ≡ slice_get (fields self.now) i };
 

@@ -9,7 +9,7 @@ mod range;
 mod way;
 
 pub use fault::Fault;
-pub use interface::Record;
+pub use interface::{MOST_FIELDS, Record};
 pub use kind::Kind;
 pub use par::Par;
 pub use way::Way;

@@ -4,11 +4,11 @@ ghost use Rattle.record.specs.Pars.{par_fields, par_making, ParWithin};
 ghost use Rattle.std.proofs.Common.{rules};
 
 use crate::fault::Fault;
-use crate::interface::Record;
+use crate::interface::{MOST_FIELDS, Record};
 use crate::kind::Kind;
 use crate::range::checked;
 
-#[derive(Clone, Copy)]
+#[derive(Clone, Copy, PartialEq, Eq, Debug)]
 pub struct Par {
     value: i32,
     least: i32,
@@ -42,7 +42,7 @@ impl Record for Par {
 
     ghost limits = { Prim.search rules };
 
-    fn make(numbers: [i32; 4]) -> Result<Par, Fault> {
+    fn make(numbers: [i32; MOST_FIELDS]) -> Result<Par, Fault> {
         let [value, least, most, _unread] = numbers;
         Ok(Par {
             value: checked(value, least..=most, 1)?,

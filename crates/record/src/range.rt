@@ -6,7 +6,7 @@ ghost use Rattle.record.specs.Making.{Between, lies};
 use crate::fault::Fault;
 use std::ops::RangeInclusive;
 
-// The number itself where it is within the limits of the field.
+/// The number itself where it is within the limits of the field.
 pub(crate) fn checked(number: i32, limits: RangeInclusive<i32>, field: u8) -> Result<i32, Fault>
     requires { range_inclusive_exhausted limits ≡ false }
     ensures answer { is_ok result ≡ lies (range_inclusive_start limits) (range_inclusive_end limits) number }

@@ -4,7 +4,7 @@ ghost use Rattle.record.specs.Ways.{way_fields, way_making, WayWithin};
 ghost use Rattle.std.proofs.Common.{rules, arith};
 
 use crate::fault::Fault;
-use crate::interface::Record;
+use crate::interface::{MOST_FIELDS, Record};
 use crate::kind::Kind;
 use crate::range::checked;
 
@@ -20,7 +20,7 @@ const HIGHEST: i32 = 1_000_000;
 
 const FASTEST: i32 = 3_000;
 
-#[derive(Clone, Copy)]
+#[derive(Clone, Copy, PartialEq, Eq, Debug)]
 pub struct Way {
     latitude: i32,
     longitude: i32,
@@ -56,7 +56,7 @@ impl Record for Way {
 
     ghost limits = { λ a b c d x e. Prim.grind arith };
 
-    fn make(numbers: [i32; 4]) -> Result<Way, Fault> {
+    fn make(numbers: [i32; MOST_FIELDS]) -> Result<Way, Fault> {
         let [latitude, longitude, height, speed] = numbers;
         Ok(Way {
             latitude: checked(latitude, -LATITUDE..=LATITUDE, 1)?,

@@ -1,6 +1,6 @@
 -- A poll of two schemes side by side. Assumes nothing.
 use Rattle.std.proofs.Common.{◌≡◌, ℕ, ◌+◌, ◌<◌, Bool, true, ◌||◌, ◌&&◌, ◌⊎◌, inl, inr, rules, arith}
-use Rattle.std.specs.Prelude.{if◌then◌else◌}
+use Rattle.std.specs.Prelude.{if◌then◌else◌, Result, Ok, Err, OnErr}
 use Rattle.std.proofs.lemmas.Bool.Decides.{nat_tests, same_from_decides, Decides-or, Decides-like}
 use mathlib.Core.HLevel.{is_prop→PathP}
 use Rattle.std.proofs.Props.{props}
@@ -43,8 +43,8 @@ module _ {A B : Type 0} {first : A → Meaning} {second : B → Meaning} {s s' :
   somebody_awaited = cc (says_awaited (first s) sa, says_awaited (second t) sb, anybody_beside (first s).awaited (second t).awaited (λ r t. j.first_low r (sa.within r t)) (λ r t. j.second_low r (sb.within r t)))
 
   -- while one of the two says not yet, the pair does, and where neither does, the pair's wait is over
-  pub told : (still : Bool) → (says_not_yet x || says_not_yet y) ≡ still → ((if still then NotYet else Over) ≡ (on_poll both).answer) × (joined (still && w) (first s') (second t') ≡ (on_poll both).next)
-  told still so = (
+  pub pair_polled : (still : Bool) → (says_not_yet x || says_not_yet y) ≡ still → ((if still then NotYet else Over) ≡ (on_poll both).answer) × (joined (still && w) (first s') (second t') ≡ (on_poll both).next)
+  pair_polled still so = (
     grind (arith, nat_tests, somebody_awaited),
     same_meaning _ _
         (λ r. grind (arith, nat_tests, inside_stays (first s), inside_stays (second t), inside_stays both))
@@ -61,3 +61,12 @@ same_pair {first = first} {second = second} s t p q w = λ i. record {
   waits = w i;
   joins = is_prop→PathP (λ j. Joins (w j) (first.meaning (p j)) (second.meaning (q j))) (λ j. hlevel props) s.joins t.joins i;
 }
+
+-- the same where one of the two refused
+pub same_first : {A B T E : Type 0} {first : _} {second : _} (r : Result T E) (s t : Pair A B first second) → OnErr r (s.first ≡ t.first) → s.second ≡ t.second → s.waits ≡ t.waits → OnErr r (s ≡ t)
+same_first (Ok x) s t p q w = tt
+same_first (Err e) s t p q w = same_pair s t p q w
+
+pub same_second : {A B T E : Type 0} {first : _} {second : _} (r : Result T E) (s t : Pair A B first second) → s.first ≡ t.first → OnErr r (s.second ≡ t.second) → s.waits ≡ t.waits → OnErr r (s ≡ t)
+same_second (Ok x) s t p q w = tt
+same_second (Err e) s t p q w = same_pair s t p q w

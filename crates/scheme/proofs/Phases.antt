@@ -11,7 +11,7 @@ use Rattle.scheme.specs.PhaseNumbers.{index_of, other, same}
 use Rattle.scheme.specs.Visits.{visiting, under}
 use Rattle.scheme.proofs.Sets.{none_in}
 use Rattle.scheme.proofs.Counts.{number_updated, number_le, anybody_number}
-use Rattle.scheme.specs.Phases.{nobody_past, under_visiting}
+use Rattle.scheme.specs.SoundVisits.{nobody_past, under_visiting}
 
 -- ---- the visit of one reader
 

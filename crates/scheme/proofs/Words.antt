@@ -8,7 +8,7 @@ use Rattle.std.proofs.lemmas.Nat.Bits.{bit_at-zero, bit_at-lt, shr_and_one, bit_
 use Rattle.scheme.specs.Meaning.{nobody, updated, anybody}
 use Rattle.scheme.specs.ReaderSets.{has_bit}
 use Rattle.scheme.proofs.Sets.{none_in, nobody_in}
-use Rattle.scheme.specs.Words.{bits_known}
+use Rattle.scheme.specs.SoundSets.{bits_known}
 
 pub no_bit : has_bit 0 ≡ nobody
 unfolding has_bit

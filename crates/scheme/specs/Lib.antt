@@ -10,5 +10,5 @@ pub mod Scripts
 pub mod Texts
 pub mod Histories
 pub mod Runs
-pub mod Words
-pub mod Phases
+pub mod SoundSets
+pub mod SoundVisits

@@ -1,11 +1,12 @@
 // Two sets of sixteen bits: the readers inside, and while a wait is open those that it awaits.
 ghost use Rattle.std.specs.Prelude.{◌≡◌, ℕ, is_some, true};
 ghost use Rattle.scheme.specs.ReaderSets.{awaited_by, members};
-ghost use Rattle.scheme.specs.Words.{bits_known, quiet_without};
+ghost use Rattle.scheme.specs.SoundSets.{bits_known, quiet_without};
 
 use crate::interface::{Poll, Scheme};
 use crate::reader::Reader;
 use crate::reader_set::ReaderSet;
+use crate::refused::Refused;
 
 #[derive(Drop)]
 pub struct Bits {
@@ -27,33 +28,32 @@ impl Scheme for Bits {
         }
     }
 
-    fn enter(&mut self, reader: u32) -> bool {
-        match Reader::try_from(reader) {
-            Ok(reader) => self.inside.insert(reader),
-            Err(_) => false,
+    fn enter(&mut self, reader: u32) -> Result<(), Refused> {
+        let reader = Reader::try_from(reader)?;
+        if !self.inside.insert(reader) {
+            return Err(Refused);
         }
+        Ok(())
     }
 
-    #[tactic(auto, using(crate::specs::Words::none_high))]
-    fn leave(&mut self, reader: u32) -> bool {
-        let Ok(reader) = Reader::try_from(reader) else {
-            return false;
-        };
+    #[tactic(auto, using(crate::specs::SoundSets::none_high))]
+    fn leave(&mut self, reader: u32) -> Result<(), Refused> {
+        let reader = Reader::try_from(reader)?;
         if !self.inside.remove(reader) {
-            return false;
+            return Err(Refused);
         }
         if let Some(awaited) = &mut self.wait {
             awaited.remove(reader);
         }
-        true
+        Ok(())
     }
 
-    fn begin(&mut self) -> bool {
+    fn begin(&mut self) -> Result<(), Refused> {
         if self.wait.is_some() {
-            return false;
+            return Err(Refused);
         }
         self.wait = Some(self.inside);
-        true
+        Ok(())
     }
 
     fn poll(&mut self) -> Poll {

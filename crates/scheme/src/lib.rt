@@ -8,12 +8,13 @@ mod phase;
 mod phase_number;
 mod reader;
 mod reader_set;
+mod refused;
 mod script;
-mod texts;
 mod visits;
 
 pub use bits::Bits;
 pub use interface::{Poll, READERS, Scheme};
 pub use pair::Pair;
 pub use phase::Phase;
+pub use refused::Refused;
 pub use script::{Answer, Call, call_on, run};

@@ -3,9 +3,10 @@ ghost use Rattle.scheme.specs.Halves.{Joins, joined};
 ghost use Rattle.std.proofs.Common.{rules};
 
 use crate::interface::{Poll, READERS, Scheme};
+use crate::refused::Refused;
 
 // How many readers each of the two has.
-const HALF: u32 = 8;
+const HALF: u32 = READERS / 2;
 
 #[derive(Drop)]
 pub struct Pair<A: Scheme, B: Scheme> {
@@ -29,32 +30,32 @@ impl<A: Scheme, B: Scheme> Scheme for Pair<A, B> {
         }
     }
 
-    // `leave` goes the same ways as `enter`. No closure or reference serves both, since the two schemes have two types.
-    fn enter(&mut self, reader: u32) -> bool {
+    // `leave` goes the same ways as `enter`, in as many words: the two schemes have two types, so one way for both would take two closures.
+    fn enter(&mut self, reader: u32) -> Result<(), Refused> {
         match reader {
             0..HALF => self.first.enter(reader),
             HALF..READERS => self.second.enter(reader - HALF),
-            _ => false,
+            _ => Err(Refused),
         }
     }
 
-    fn leave(&mut self, reader: u32) -> bool {
+    fn leave(&mut self, reader: u32) -> Result<(), Refused> {
         match reader {
             0..HALF => self.first.leave(reader),
             HALF..READERS => self.second.leave(reader - HALF),
-            _ => false,
+            _ => Err(Refused),
         }
     }
 
-    fn begin(&mut self) -> bool {
+    fn begin(&mut self) -> Result<(), Refused> {
         if self.waits {
-            return false;
+            return Err(Refused);
         }
         // Neither half has a wait open, so both accept.
-        self.first.begin();
-        self.second.begin();
+        self.first.begin()?;
+        self.second.begin()?;
         self.waits = true;
-        true
+        Ok(())
     }
 
     fn poll(&mut self) -> Poll {

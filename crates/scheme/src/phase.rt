@@ -2,17 +2,19 @@
 // A wait turns the phase, so that the old count only falls, and is over when that count is 0.
 ghost use Rattle.std.specs.Prelude.{◌≡◌, ℕ, false};
 ghost use Rattle.scheme.specs.Visits.{phased, under, visiting};
-ghost use Rattle.scheme.specs.Phases.{phased_sound};
+ghost use Rattle.scheme.specs.SoundVisits.{phased_sound};
 
 use crate::interface::{Poll, Scheme};
 use crate::phase_number::PhaseNumber;
 use crate::reader::Reader;
+use crate::refused::Refused;
 use crate::visits::Visits;
 
 #[derive(Drop)]
 pub struct Phase {
     visits: Visits,
     phase: PhaseNumber,
+    // A flag: whom an open wait awaits follows from the current phase.
     waits: bool,
     // With no wait open all readers inside entered under the current phase.
     ghost settled: { (r : ℕ) → waits ≡ false → under visits.table phase r ≡ visiting visits.table r },
@@ -31,28 +33,30 @@ impl Scheme for Phase {
         }
     }
 
-    fn enter(&mut self, reader: u32) -> bool {
-        match Reader::try_from(reader) {
-            Ok(reader) => self.visits.enter(reader, self.phase),
-            Err(_) => false,
+    fn enter(&mut self, reader: u32) -> Result<(), Refused> {
+        let reader = Reader::try_from(reader)?;
+        if !self.visits.enter(reader, self.phase) {
+            return Err(Refused);
         }
+        Ok(())
     }
 
-    #[tactic(auto, using(crate::specs::Phases::nobody_past))]
-    fn leave(&mut self, reader: u32) -> bool {
-        match Reader::try_from(reader) {
-            Ok(reader) => self.visits.leave(reader),
-            Err(_) => false,
+    #[tactic(auto, using(crate::specs::SoundVisits::nobody_past))]
+    fn leave(&mut self, reader: u32) -> Result<(), Refused> {
+        let reader = Reader::try_from(reader)?;
+        if !self.visits.leave(reader) {
+            return Err(Refused);
         }
+        Ok(())
     }
 
-    fn begin(&mut self) -> bool {
+    fn begin(&mut self) -> Result<(), Refused> {
         if self.waits {
-            return false;
+            return Err(Refused);
         }
         self.phase = self.phase.other();
         self.waits = true;
-        true
+        Ok(())
     }
 
     fn poll(&mut self) -> Poll {

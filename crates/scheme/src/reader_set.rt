@@ -1,13 +1,14 @@
 // A set of readers in sixteen bits: reader r is in it where bit r is 1.
-// No `impl Model`: contracts see sets as functions, and a function cannot be its `Value` ("A function has no code: take a list in its place").
 ghost use Rattle.std.specs.Prelude.{◌≡◌, false, not, true};
 ghost use Rattle.scheme.specs.Meaning.{anybody, nobody, updated};
 ghost use Rattle.scheme.specs.ReaderSets.{members};
 
 use crate::reader::Reader;
 
-#[derive(Clone, Copy)]
+/// Contracts see it as a function from numbers to yes or no, by `members`.
+#[derive(Clone, Copy, PartialEq, Eq, Debug)]
 pub struct ReaderSet {
+    // No `impl Model`: its `Value` may be no function, and the check asks for "a list in its place".
     bits: u16,
 }
 
@@ -26,7 +27,7 @@ impl ReaderSet {
         (self.bits >> reader.number) & 1 == 1
     }
 
-    // Puts the reader in. Says whether it was not in already.
+    /// Puts the reader in. Says whether it was not in already.
     #[tactic(auto, using(crate::proofs::Words::bit_set))]
     pub fn insert(&mut self, reader: Reader) -> bool
         ensures answer { result ≡ not (members self.old reader.number) }
@@ -40,7 +41,7 @@ impl ReaderSet {
         true
     }
 
-    // Takes the reader out. Says whether it was in.
+    /// Takes the reader out. Says whether it was in.
     #[tactic(auto, using(crate::proofs::Words::bit_cleared))]
     pub fn remove(&mut self, reader: Reader) -> bool
         ensures answer { result ≡ members self.old reader.number }

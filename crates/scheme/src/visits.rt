@@ -10,12 +10,13 @@ use crate::interface::READERS;
 use crate::phase_number::PhaseNumber;
 use crate::reader::Reader;
 
-// The table has a place for each reader. A constant is made by `as`, since it may call no `From`.
+// The table has a place for each reader, by its number. Here and below that is a cast, which the check proves to lose nothing: there is no `From<u32>` for `usize`.
 const PLACES: usize = READERS as usize;
 
-// No `impl Model`: its view would leave the counts out of what "the whole scheme stays as it was" says of `Phase`.
+/// Who is inside, and under which phase.
 #[derive(Drop)]
 pub struct Visits {
+    // Contracts name the table, and there is no `impl Model`: its view would leave the counts out of what "the whole scheme stays as it was" says of `Phase`.
     // The phase that each reader took as it entered, or none for one that is outside. An array, since there is no heap.
     table: [Option<PhaseNumber>; PLACES],
     counts: [u8; 2],
@@ -26,7 +27,7 @@ pub struct Visits {
 }
 
 impl Visits {
-    // All readers are outside.
+    /// All readers are outside.
     #[tactic(auto, using(crate::proofs::Phases::none_visiting, crate::proofs::Phases::none_under, crate::proofs::Counts::number_nobody))]
     pub fn none() -> Visits
         ensures inside { visiting result.table ≡ nobody }
@@ -38,7 +39,7 @@ impl Visits {
         }
     }
 
-    // A visit of the reader begins under the phase, unless it is inside already. Says whether it began.
+    /// A visit of the reader begins under the phase, unless it is inside already. Says whether it began.
     #[tactic(auto, using(crate::proofs::Phases::visiting_set, crate::proofs::Phases::entered_under, crate::proofs::Phases::room_left), unfolding(crate::specs::Visits::visiting))]
     pub fn enter(&mut self, reader: Reader, phase: PhaseNumber) -> bool
         ensures answer { result ≡ not (visiting self.old.table reader.number) }
@@ -56,7 +57,7 @@ impl Visits {
         true
     }
 
-    // The visit of the reader ends, if it is inside, and its phase has one reader less. Says whether one ended.
+    /// The visit of the reader ends, if it is inside, and its phase has one reader less. Says whether one ended.
     #[tactic(auto, using(crate::proofs::Phases::visiting_set, crate::proofs::Phases::left_under, crate::proofs::Phases::some_counted), unfolding(crate::specs::Visits::visiting))]
     pub fn leave(&mut self, reader: Reader) -> bool
         ensures answer { result ≡ visiting self.old.table reader.number }
@@ -65,15 +66,14 @@ impl Visits {
         ensures kept { result ≡ false → self.new ≡ self.old }
     {
         let place = reader.number as usize;
-        let Some(phase) = self.table[place] else {
+        let Some(phase) = self.table[place].take() else {
             return false;
         };
-        self.table[place] = None;
         self.counts[usize::from(phase)] -= 1;
         true
     }
 
-    // Whether a reader is inside that entered under the phase; if not, all entered under the other.
+    /// Whether a reader is inside that entered under the phase; if not, all entered under the other.
     #[tactic(auto, using(crate::proofs::Phases::count_tells, crate::proofs::Phases::nobody_under, crate::proofs::Phases::others_under))]
     pub fn any_under(&self, phase: PhaseNumber) -> bool
         ensures answer { result ≡ anybody (under self.now.table phase) }

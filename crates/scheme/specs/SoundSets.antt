@@ -1,4 +1,4 @@
--- Words of sixteen bits as sets of readers: whom they can hold. Assumes nothing.
+-- Lemmas for the law of a scheme of bits: whom its sets can hold. Assumes nothing.
 use Rattle.std.specs.Prelude.{◌≡◌, ℕ, ◌<◌, ◌≤◌, true, false, Option, is_some}
 use Rattle.std.proofs.Common.{arith}
 use Rattle.std.proofs.lemmas.Bool.Decides.{nat_tests}

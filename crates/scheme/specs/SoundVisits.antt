@@ -1,4 +1,4 @@
--- The meaning of visits under phases is sound. Assumes nothing.
+-- Lemmas for the law of a scheme of phases: the meaning of visits is sound. Assumes nothing.
 use Rattle.std.specs.Prelude.{◌≡◌, ℕ, ◌≤◌, Bool, true, false, List, length, Option, None, is_some}
 use Rattle.std.proofs.Common.{ap, arith}
 use Rattle.std.proofs.lemmas.Bool.{and_left, and_parts}
