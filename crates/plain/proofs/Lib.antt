@@ -6,6 +6,7 @@ pub mod Reached
 pub mod Writes
 pub mod Shape
 pub mod Books
+pub mod Filling
 pub mod Placing
 pub mod Removing
 pub mod Grace

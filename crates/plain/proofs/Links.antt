@@ -71,23 +71,23 @@ pub record Skipped (lk lk' : ℕ → ℕ) (p : ℕ) : Type 0 where
   pub at_p : lk' p ≡ lk (lk p)
   pub rest : (x : ℕ) → x ≢ p → lk' x ≡ lk x
 
-module _ {lk lk' stage rank : ℕ → ℕ} (o : Ordered lk stage rank) (p y : ℕ) (s : Spliced lk lk' p y) (kp : stage p ≡ 0) (ky : stage y ≡ 3) where
-  y_ne : y ≢ 0
-  y_ne e = grind arith
+-- y is free, so it is no place, and no node in use
+pub record Free (stage : ℕ → ℕ) (y : ℕ) : Type 0 where
+  pub is_free : stage y ≡ 3
+  pub ne : y ≢ 0
+  pub live_ne : (x : ℕ) → stage x < 3 → x ≢ y
 
-  live_ne : (x : ℕ) → stage x < 3 → x ≢ y
-  live_ne x l e = grind arith
-
+module _ {lk lk' stage rank : ℕ → ℕ} (o : Ordered lk stage rank) (p y : ℕ) (s : Spliced lk lk' p y) (kp : stage p ≡ 0) (g : Free stage y) where
   pub splice_fwd : {z x : ℕ} → stage x < 3 → Ahead lk z x → Ahead lk' z x
   splice_fwd {z} {x} l (next n e) = elim (cases_eq x p) [
-    | inl q ↦ more_at y_ne (cc) (next_at (λ w. n (e ∙ w)) (cc))
+    | inl q ↦ more_at g.ne (cc) (next_at (λ w. n (e ∙ w)) (cc))
     | inr q ↦ next_at (λ w. n (e ∙ w)) (grind arith)
   ]
   splice_fwd {z} {x} l (more n a) =
       let b = splice_fwd (omega arith) a in
       elim (cases_eq x p) [
-        | inl q ↦ more_at y_ne (cc) (more_at n (cc) b)
-        | inr q ↦ more_at n (s.rest x q (live_ne x l)) b
+        | inl q ↦ more_at g.ne (cc) (more_at n (cc) b)
+        | inr q ↦ more_at n (s.rest x q (g.live_ne x l)) b
       ]
 
   splice_back_both : {z x : ℕ} → Ahead lk' z x → (x ≡ y → (z ≡ y) ⊎ Ahead lk z p) × (stage x < 3 → (z ≡ y) ⊎ Ahead lk z x)
@@ -106,7 +106,7 @@ module _ {lk lk' stage rank : ℕ → ℕ} (o : Ordered lk stage rank) (p y : �
     (λ l. elim (cases_eq x p) [
       | inl q ↦ elim (b.0 (cc)) [ inl e ↦ inl e | inr c ↦ inr (ahead_from (sym q) c) ]
       | inr q ↦
-          let v : lk x ≡ lk' x = sym (s.rest x q (live_ne x l)) in
+          let v : lk x ≡ lk' x = sym (s.rest x q (g.live_ne x l)) in
           let l' : stage (lk' x) < 3 = subst (λ (w : ℕ). stage w < 3) v (omega arith) in
           elim (b.1 l') [ inl e ↦ inl e | inr c ↦ inr (more_at n v c) ]
     ]),

@@ -18,7 +18,7 @@ module _ (m n s : ℕ) where
         down = λ x l. grind arith;
         single = λ x y kx ky e d. grind arith;
       };
-      books = books_new m n s stamps;
+      books = books_new n s stamps;
       keys_apart = λ x y ax ay nx ny e. grind arith;
       moved = tt;
       somewhere = λ x d l. Somewhere.in_free (upto_in 1 n (omega arith) (omega arith));

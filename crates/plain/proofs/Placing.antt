@@ -7,9 +7,10 @@ use Rattle.plain.specs.Pools.{Pool, Move, link_of, filled, placed_behind, with_m
 use Rattle.plain.specs.Boards.{Area, Record, with_record}
 use Rattle.plain.proofs.Links.{Ahead, next_at, ahead_ne, ahead_from, ahead_to, ahead_trans, Ordered, Spliced, splice_fwd, splice_back, splice_ordered}
 use Rattle.plain.proofs.Lists.{In, in_cases}
-use Rattle.plain.proofs.Writes.{linked_elsewhere, filled_there, filled_elsewhere, record_stays}
-use Rattle.plain.proofs.Shape.{Shaped, Somewhere, Moved, Carried, Turned, Owed, listed_stage}
-use Rattle.plain.proofs.Books.{Fills, books_fill}
+use Rattle.plain.proofs.Writes.{record_stays}
+use Rattle.plain.proofs.Shape.{Shaped, Somewhere, Moved, Carried, Turned, Owed, listed_stage, place_stage}
+use Rattle.plain.proofs.Books.{books_fill}
+use Rattle.plain.proofs.Filling.{filling}
 
 -- what a change of a pool gives: the pool is sound again, and readers that are awaited or not as before can tell no more than Turned says
 pub record Turn (size : ℕ) (q q' : Pool) (a a' : Area) (stage : ℕ → ℕ) : Type 0 where
@@ -24,61 +25,28 @@ module _ {size : ℕ} {q : Pool} {stage rank : ℕ → ℕ} (s : Shaped size q s
   abbrev q₁ : Pool
   q₁ = with_move m (placed_behind k p q)
 
-  head : head_or_0 q.free ≡ y
-  head = grind arith
-
-  fresh : (stage y ≡ 3) × (y ≤ size)
-  fresh = s.books.in_free y (rw free (In.first refl))
-
   kp : stage p ≡ 0
-  kp = elim pa [ inl e ↦ cc | inr a ↦ listed_stage s a ]
+  kp = place_stage s pa
 
-  pub y_ne : y ≢ 0
-  y_ne e = omega (arith, ap stage e, fresh.0)
+  open filling s free k (link_of q p) kp use {free as fresh, at_p, at_y, elsewhere, key_new, key_old, stamp_old}
 
-  live_ne : (x : ℕ) → stage x < 3 → x ≢ y
-  live_ne x l e = omega (arith, ap stage e, fresh.0)
-
-  pub spliced : Spliced (link_of q) (link_of q₁) p y
-  spliced = record {
-    at_p = grind arith;
-    at_y = linked_elsewhere p (head_or_0 q.free) (filled k (link_of q p) q) y (λ e. live_ne p (omega (arith, kp)) (sym e)) ∙ filled_there k (link_of q p) q y head y_ne;
-    rest = λ x n d. linked_elsewhere p (head_or_0 q.free) (filled k (link_of q p) q) x n ∙ filled_elsewhere k (link_of q p) q y head x d;
-  }
-
-  pub key_new : q₁.key y ≡ k
-  key_new = grind arith
-
-  pub key_old : (x : ℕ) → x ≢ y → q₁.key x ≡ q.key x
-  key_old x n = grind arith
-
-  stamp_old : (x : ℕ) → x ≢ y → q₁.stamp x ≡ q.stamp x
-  stamp_old x n = grind arith
-
-  fills : Fills q q₁ y
-  fills = record {
-    free = cc;
-    due = refl;
-    covered = refl;
-    next_stamp = refl;
-    stamp_new = grind arith;
-    stamp_old = stamp_old;
-  }
+  spliced : Spliced (link_of q) (link_of q₁) p y
+  spliced = record { at_p = at_p; at_y = at_y; rest = elsewhere }
 
   abbrev stage₁ : ℕ → ℕ
   stage₁ = updated stage y 0
 
   ordered₁ : Ordered (link_of q₁) stage₁ (updated (λ x. 2 * rank x + 2) y (2 * rank p + 1))
-  ordered₁ = splice_ordered s.ordered p y spliced kp fresh.0
+  ordered₁ = splice_ordered s.ordered p y spliced kp fresh
 
   pub still_ahead : {z x : ℕ} → stage x < 3 → Ahead (link_of q) z x → Ahead (link_of q₁) z x
-  still_ahead l a = splice_fwd s.ordered p y spliced kp fresh.0 l a
+  still_ahead l a = splice_fwd s.ordered p y spliced kp fresh l a
 
   pub listed_live : stage 0 < 3
   listed_live = omega arith
 
   pub behind_p : Ahead (link_of q₁) y p
-  behind_p = next_at y_ne spliced.at_p
+  behind_p = next_at fresh.ne spliced.at_p
 
   pub new_listed : Ahead (link_of q₁) y 0
   new_listed = elim pa [
@@ -88,10 +56,10 @@ module _ {size : ℕ} {q : Pool} {stage rank : ℕ → ℕ} (s : Shaped size q s
 
   -- a node listed now is the new one, or was listed
   pub listed_before : {x : ℕ} → Ahead (link_of q₁) x 0 → (x ≡ y) ⊎ Ahead (link_of q) x 0
-  listed_before a = splice_back s.ordered p y spliced kp fresh.0 listed_live a
+  listed_before a = splice_back s.ordered p y spliced kp fresh listed_live a
 
   pub old_ne : {x : ℕ} → Ahead (link_of q) x 0 → x ≢ y
-  old_ne a = live_ne _ (omega (arith, listed_stage s a))
+  old_ne a = fresh.live_ne _ (omega (arith, listed_stage s a))
 
   KeysApart : Type 0
   KeysApart = (x z : ℕ) → Ahead (link_of q₁) x 0 → Ahead (link_of q₁) z 0 → x ≢ old_of m → z ≢ old_of m → q₁.key x ≡ q₁.key z → x ≡ z
@@ -112,9 +80,9 @@ module _ {size : ℕ} {q : Pool} {stage rank : ℕ → ℕ} (s : Shaped size q s
 
   still_somewhere : (x : ℕ) → Somewhere q x → Somewhere q₁ x
   still_somewhere x (Somewhere.on_list c) = Somewhere.on_list (still_ahead listed_live c)
-  still_somewhere x (Somewhere.in_free i) = elim (in_cases (rw fills.free at i)) [
+  still_somewhere x (Somewhere.in_free i) = elim (in_cases (rw free at i)) [
     | inl e ↦ Somewhere.on_list (ahead_to (sym e) new_listed)
-    | inr j ↦ Somewhere.in_free j
+    | inr j ↦ Somewhere.in_free (rw free j)
   ]
   still_somewhere x (Somewhere.in_due i) = Somewhere.in_due i
   still_somewhere x (Somewhere.in_covered i) = Somewhere.in_covered i
@@ -126,20 +94,20 @@ module _ {size : ℕ} {q : Pool} {stage rank : ℕ → ℕ} (s : Shaped size q s
   placing a v o new mv none = record {
     stage' = stage₁;
     rank' = updated (λ x. 2 * rank x + 2) y (2 * rank p + 1);
-    shaped = record { ordered = ordered₁; books = books_fill s.books fills; keys_apart = keys_apart₁ o new; moved = mv; somewhere = λ x n l. still_somewhere x (s.somewhere x n l) };
+    shaped = record { ordered = ordered₁; books = rw free (books_fill (rw free at s.books)); keys_apart = keys_apart₁ o new; moved = mv; somewhere = λ x n l. still_somewhere x (s.somewhere x n l) };
     covered = refl;
     turned = λ aw. record {
       kept = λ x n l. record {
-        key = key_old x (live_ne x l);
-        stamp = stamp_old x (live_ne x l);
-        fields = record_stays a y x v y_ne n (live_ne x l);
+        key = key_old x (fresh.live_ne x l);
+        stamp = stamp_old x (fresh.live_ne x l);
+        fields = record_stays a y x v fresh.ne n (fresh.live_ne x l);
       };
       guards = λ x g.
-          let e = updated_elsewhere stage y x 0 (live_ne x g.live) in
+          let e = updated_elsewhere stage y x 0 (fresh.live_ne x g.live) in
           let l = g.live in
           record { live = omega arith; waits = λ w. g.waits (cc) };
-      back = λ x z l b. elim (splice_back s.ordered p y spliced kp fresh.0 l b) [
-        | inl e ↦ inr (cc (fresh.0), ahead_to (sym e) new_listed)
+      back = λ x z l b. elim (splice_back s.ordered p y spliced kp fresh l b) [
+        | inl e ↦ inr (cc (fresh.is_free), ahead_to (sym e) new_listed)
         | inr c ↦ inl c
       ];
       fwd = λ x z l b. Carried.stays (still_ahead l b);

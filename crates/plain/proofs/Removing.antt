@@ -9,9 +9,10 @@ use Rattle.plain.specs.Boards.{Area, Record, with_record}
 use Rattle.plain.proofs.Links.{Ahead, next_at, ahead_ne, ahead_to, ahead_trans, ahead_stage, Ordered, Spliced, Skipped, splice_fwd, splice_back, splice_ordered, skip_fwd, skip_back, skip_lost, skip_ordered}
 use Rattle.plain.proofs.Lists.{In, in_cases}
 use Rattle.plain.proofs.Reached.{chain_ahead, ahead_chain, before_links}
-use Rattle.plain.proofs.Writes.{linked_there, linked_elsewhere, filled_there, filled_elsewhere, record_stays}
-use Rattle.plain.proofs.Shape.{Shaped, Somewhere, Books, Moved, Guarded, Carried, Owed, listed_stage, listed_chain}
-use Rattle.plain.proofs.Books.{Fills, books_fill, Retires, books_retire}
+use Rattle.plain.proofs.Writes.{linked_there, record_stays}
+use Rattle.plain.proofs.Shape.{Shaped, Somewhere, Moved, Guarded, Carried, Owed, listed_stage, place_stage, listed_chain}
+use Rattle.plain.proofs.Books.{books_fill, books_retire}
+use Rattle.plain.proofs.Filling.{filling}
 use Rattle.plain.proofs.Placing.{Turn}
 
 module _ {size : ℕ} {q : Pool} {stage rank : ℕ → ℕ} (s : Shaped size q stage rank) (x : ℕ) (xa : Ahead (link_of q) x 0) where
@@ -29,7 +30,7 @@ module _ {size : ℕ} {q : Pool} {stage rank : ℕ → ℕ} (s : Shaped size q s
   pa = elim found.1 [ inl e ↦ inl e | inr i ↦ inr (chain_ahead (listed_chain s) i) ]
 
   kp : stage p ≡ 0
-  kp = elim pa [ inl e ↦ cc | inr a ↦ listed_stage s a ]
+  kp = place_stage s pa
 
   kx : stage x ≡ 0
   kx = listed_stage s xa
@@ -56,15 +57,6 @@ module _ {size : ℕ} {q : Pool} {stage rank : ℕ → ℕ} (s : Shaped size q s
     skipped = record {
       at_p = cc (linked_there p (link_of q x) q, p_links);
       rest = λ z n. grind arith;
-    }
-
-    retires : Retires q q₁ x
-    retires = record {
-      free = refl;
-      due = refl;
-      covered = refl;
-      next_stamp = refl;
-      stamp = λ z. refl;
     }
 
     ordered₁ : Ordered (link_of q₁) (updated stage x 1) rank
@@ -100,7 +92,7 @@ module _ {size : ℕ} {q : Pool} {stage rank : ℕ → ℕ} (s : Shaped size q s
       rank' = rank;
       shaped = record {
         ordered = ordered₁;
-        books = books_retire s.books retires kx;
+        books = books_retire s.books kx;
         keys_apart = λ y z ay az ny nz e. apart y z (was_ahead ay) (was_ahead az) (not_listed ay) (not_listed az) ny nz e;
         moved = mv;
         somewhere = λ z n l. still_somewhere z (s.somewhere z n l);
@@ -127,23 +119,13 @@ module _ {size : ℕ} {q : Pool} {stage rank : ℕ → ℕ} (s : Shaped size q s
     abbrev q₂ : Pool
     q₂ = retired x mid
 
-    head : head_or_0 q.free ≡ y
-    head = grind arith
-
-    fresh : (stage y ≡ 3) × (y ≤ size)
-    fresh = s.books.in_free y (rw free (In.first refl))
-
-    y_ne : y ≢ 0
-    y_ne e = omega (arith, ap stage e, fresh.0)
-
-    live_ne : (z : ℕ) → stage z < 3 → z ≢ y
-    live_ne z l e = omega (arith, ap stage e, fresh.0)
+    open filling s free k (link_of q x) kp use {free as fresh, at_p, at_y, elsewhere, key_new, key_old, stamp_old}
 
     p_ne : p ≢ y
-    p_ne = live_ne p (omega (arith, kp))
+    p_ne = fresh.live_ne p (omega (arith, kp))
 
     x_ne : x ≢ y
-    x_ne = live_ne x (omega (arith, kx))
+    x_ne = fresh.live_ne x (omega (arith, kx))
 
     x_ne_p : x ≢ p
     x_ne_p e =
@@ -170,15 +152,10 @@ module _ {size : ℕ} {q : Pool} {stage rank : ℕ → ℕ} (s : Shaped size q s
 
     then_out : Skipped lk (link_of q₂) y
     then_out = record {
-      at_p =
-          cc (linked_elsewhere p (head_or_0 q.free) (filled k (link_of q x) q) y (λ e. p_ne (sym e)), filled_there k (link_of q x) q y head y_ne, lk_y, lk_rest x x_ne_p x_ne);
+      at_p = cc (at_y, lk_y, lk_rest x x_ne_p x_ne);
       rest = λ z n. elim (cases_eq z p) [
-        | inl e ↦
-            cc (linked_there p (head_or_0 q.free) (filled k (link_of q x) q), head, lk_p z e)
-        | inr d ↦
-            linked_elsewhere p (head_or_0 q.free) (filled k (link_of q x) q) z d
-            ∙ filled_elsewhere k (link_of q x) q y head z n
-            ∙ sym (lk_rest z d n)
+        | inl e ↦ cc (at_p, lk_p z e)
+        | inr d ↦ elsewhere z d n ∙ sym (lk_rest z d n)
       ];
     }
 
@@ -192,7 +169,7 @@ module _ {size : ℕ} {q : Pool} {stage rank : ℕ → ℕ} (s : Shaped size q s
     stage₂ = updated stage₁ x 1
 
     middle : Ordered lk stage₁ rank₁
-    middle = splice_ordered s.ordered p y put_in kp fresh.0
+    middle = splice_ordered s.ordered p y put_in kp fresh
 
     ky : stage₁ y ≡ 0
     ky = grind arith
@@ -204,7 +181,7 @@ module _ {size : ℕ} {q : Pool} {stage rank : ℕ → ℕ} (s : Shaped size q s
     ordered₂ = rw lk_y at (skip_ordered middle y then_out ky lk_y_ne)
 
     into_middle : {z u : ℕ} → stage u < 3 → Ahead (link_of q) z u → Ahead lk z u
-    into_middle l a = splice_fwd s.ordered p y put_in kp fresh.0 l a
+    into_middle l a = splice_fwd s.ordered p y put_in kp fresh l a
 
     out_of_middle : {z u : ℕ} → z ≢ x → Ahead lk z u → Ahead (link_of q₂) z u
     out_of_middle n a = skip_fwd middle y then_out ky lk_y_ne (λ e. n (e ∙ lk_y)) a
@@ -213,38 +190,13 @@ module _ {size : ℕ} {q : Pool} {stage rank : ℕ → ℕ} (s : Shaped size q s
     back_to_middle a = skip_back middle y then_out ky lk_y_ne a
 
     back : {z u : ℕ} → stage u < 3 → Ahead (link_of q₂) z u → (z ≡ y) ⊎ Ahead (link_of q) z u
-    back l a = splice_back s.ordered p y put_in kp fresh.0 l (back_to_middle a)
+    back l a = splice_back s.ordered p y put_in kp fresh l (back_to_middle a)
 
     new_listed : Ahead (link_of q₂) y 0
     new_listed = out_of_middle (λ e. x_ne (sym e)) (elim pa [
-      | inl e ↦ next_at y_ne (lk_p 0 (sym e))
-      | inr a ↦ ahead_trans (into_middle head_live a) (next_at y_ne (lk_p p refl))
+      | inl e ↦ next_at fresh.ne (lk_p 0 (sym e))
+      | inr a ↦ ahead_trans (into_middle head_live a) (next_at fresh.ne (lk_p p refl))
     ])
-
-    key_new : q₂.key y ≡ k
-    key_new = grind arith
-
-    key_old : (z : ℕ) → z ≢ y → q₂.key z ≡ q.key z
-    key_old z n = grind arith
-
-    stamp_old : (z : ℕ) → z ≢ y → q₂.stamp z ≡ q.stamp z
-    stamp_old z n = grind arith
-
-    fills : Fills q mid y
-    fills = record {
-      free = cc;
-      due = refl;
-      covered = refl;
-      next_stamp = refl;
-      stamp_new = grind arith;
-      stamp_old = stamp_old;
-    }
-
-    retires₂ : Retires mid q₂ x
-    retires₂ = record { free = refl; due = refl; covered = refl; next_stamp = refl; stamp = λ z. refl }
-
-    books₂ : Books size q₂ stage₂
-    books₂ = books_retire (books_fill s.books fills) retires₂ (updated_elsewhere stage y x 0 x_ne ∙ kx)
 
     not_x : {z : ℕ} → Ahead (link_of q₂) z 0 → z ≢ x
     not_x a e =
@@ -255,7 +207,7 @@ module _ {size : ℕ} {q : Pool} {stage rank : ℕ → ℕ} (s : Shaped size q s
 
     guards₂ : (aw : Bool) (z : ℕ) → Guarded stage aw z → Guarded stage₂ aw z
     guards₂ aw z g =
-        let e = updated_elsewhere stage y z 0 (live_ne z g.live) in
+        let e = updated_elsewhere stage y z 0 (fresh.live_ne z g.live) in
         elim (cases_eq z x) [
           | inl i ↦ let w = updated_at stage₁ x z 1 i in record { live = omega arith; waits = λ v. absurd (omega arith) }
           | inr n ↦ let w = updated_elsewhere stage₁ x z 1 n in record { live = omega arith; waits = λ v. g.waits (cc) }
@@ -263,7 +215,7 @@ module _ {size : ℕ} {q : Pool} {stage rank : ℕ → ℕ} (s : Shaped size q s
 
     lost : (u : ℕ) → stage u < 3 → q.key x ≡ k → Ahead (link_of q) x u → Carried q q₂ u x
     lost u l e a = elim (skip_lost middle y then_out ky lk_y_ne (ahead_to (sym lk_y) (into_middle l a))) [
-      | inl i ↦ absurd (live_ne u l i)
+      | inl i ↦ absurd (fresh.live_ne u l i)
       | inr o ↦ elim o [
         | inl b ↦ Carried.replaced y (out_of_middle (λ i. x_ne (sym i)) b) (grind arith)
         | inr b ↦ Carried.stays (ahead_to lk_y b)
@@ -286,7 +238,7 @@ module _ {size : ℕ} {q : Pool} {stage rank : ℕ → ℕ} (s : Shaped size q s
         no_old c i = ahead_ne c (cc)
 
         old_ne : {z : ℕ} → Ahead (link_of q) z 0 → z ≢ y
-        old_ne c = live_ne _ (omega (arith, listed_stage s c))
+        old_ne c = fresh.live_ne _ (omega (arith, listed_stage s c))
 
         alone : (z : ℕ) → Ahead (link_of q₂) z 0 → Ahead (link_of q) z 0 → q₂.key z ≢ k
         alone z az cz i = not_x az (s.keys_apart z x cz xa (no_old cz) (no_old xa) (cc (key_old z (old_ne cz))))
@@ -296,9 +248,9 @@ module _ {size : ℕ} {q : Pool} {stage rank : ℕ → ℕ} (s : Shaped size q s
       | inl e ↦ Somewhere.in_due (In.first e)
       | inr n ↦ Somewhere.on_list (out_of_middle n (into_middle head_live c))
     ]
-    still_somewhere₂ z (Somewhere.in_free i) = elim (in_cases (rw fills.free at i)) [
+    still_somewhere₂ z (Somewhere.in_free i) = elim (in_cases (rw free at i)) [
       | inl e ↦ Somewhere.on_list (ahead_to (sym e) new_listed)
-      | inr j ↦ Somewhere.in_free j
+      | inr j ↦ Somewhere.in_free (rw free j)
     ]
     still_somewhere₂ z (Somewhere.in_due i) = Somewhere.in_due (In.later i)
     still_somewhere₂ z (Somewhere.in_covered i) = Somewhere.in_covered i
@@ -309,17 +261,17 @@ module _ {size : ℕ} {q : Pool} {stage rank : ℕ → ℕ} (s : Shaped size q s
       rank' = rank₁;
       shaped = record {
         ordered = ordered₂;
-        books = books₂;
+        books = rw free (books_retire (books_fill (rw free at s.books)) (updated_elsewhere stage y x 0 x_ne ∙ kx));
         keys_apart = λ b c ab ac nb nc e. keys₂ still ex b c ab ac e;
         moved = rw still tt;
         somewhere = λ z n l. still_somewhere₂ z (s.somewhere z n l);
       };
       covered = refl;
       turned = λ aw. record {
-        kept = λ z n l. record { key = key_old z (live_ne z l); stamp = stamp_old z (live_ne z l); fields = record_stays a y z v y_ne n (live_ne z l) };
+        kept = λ z n l. record { key = key_old z (fresh.live_ne z l); stamp = stamp_old z (fresh.live_ne z l); fields = record_stays a y z v fresh.ne n (fresh.live_ne z l) };
         guards = guards₂ aw;
         back = λ u z l b. elim (back l b) [
-          | inl e ↦ inr (cc (fresh.0), ahead_to (sym e) new_listed)
+          | inl e ↦ inr (cc (fresh.is_free), ahead_to (sym e) new_listed)
           | inr c ↦ inl c
         ];
         fwd = λ u z l b. elim (cases_eq z x) [

@@ -1,6 +1,6 @@
 -- What holds of the pool of every board (Shaped), with the stage of each node: 0 listed, 1 due, 2 covered, 3 free.
 -- What a call may do to a pool, as far as a reader can tell (Turned). Assumes nothing.
-use Rattle.std.proofs.Common.{◌≡◌, ℕ, ◌<◌, ◌≤◌, Bool, true, false, not, eqb, ◌≢◌, ◌⊎◌, arith}
+use Rattle.std.proofs.Common.{◌≡◌, ℕ, ◌<◌, ◌≤◌, Bool, true, false, not, eqb, ◌≢◌, ◌⊎◌, List, inl, inr, arith}
 use Rattle.std.proofs.lemmas.Bool.Decides.{nat_tests}
 use Rattle.plain.specs.Pools.{Pool, Move, Need, link_of, reached, holder, old_of}
 use Rattle.plain.specs.Boards.{Area, record_at}
@@ -35,16 +35,16 @@ owed_two q m a x t w = absurd w
 -- ---- the pool
 
 -- stage 0 is listed, 1 due, 2 covered, 3 free
-pub record Books (size : ℕ) (q : Pool) (stage : ℕ → ℕ) : Type 0 where
+pub record Books (size : ℕ) (free due covered : List ℕ) (stamp : ℕ → ℕ) (next : ℕ) (stage : ℕ → ℕ) : Type 0 where
   pub bounded : (x : ℕ) → stage x < 3 → x ≤ size
-  pub in_free : (x : ℕ) → In x q.free → (stage x ≡ 3) × (x ≤ size)
-  pub in_due : (x : ℕ) → In x q.due → stage x ≡ 1
-  pub in_covered : (x : ℕ) → In x q.covered → stage x ≡ 2
-  pub apart_free : Apart q.free
-  pub apart_due : Apart q.due
-  pub apart_covered : Apart q.covered
-  pub stamps_below : (x : ℕ) → q.stamp x < q.next_stamp
-  pub stamps_apart : (x y : ℕ) → x ≢ 0 → y ≢ 0 → stage x < 3 → stage y < 3 → q.stamp x ≡ q.stamp y → x ≡ y
+  pub in_free : (x : ℕ) → In x free → (stage x ≡ 3) × (x ≤ size)
+  pub in_due : (x : ℕ) → In x due → stage x ≡ 1
+  pub in_covered : (x : ℕ) → In x covered → stage x ≡ 2
+  pub apart_free : Apart free
+  pub apart_due : Apart due
+  pub apart_covered : Apart covered
+  pub stamps_below : (x : ℕ) → stamp x < next
+  pub stamps_apart : (x y : ℕ) → x ≢ 0 → y ≢ 0 → stage x < 3 → stage y < 3 → stamp x ≡ stamp y → x ≡ y
 
 -- where a node can be
 pub data Somewhere (q : Pool) (x : ℕ) : Type 0 where
@@ -55,7 +55,7 @@ pub data Somewhere (q : Pool) (x : ℕ) : Type 0 where
 
 pub record Shaped (size : ℕ) (q : Pool) (stage rank : ℕ → ℕ) : Type 0 where
   pub ordered : Ordered (link_of q) stage rank
-  pub books : Books size q stage
+  pub books : Books size q.free q.due q.covered q.stamp q.next_stamp stage
   pub keys_apart : (x y : ℕ) → Ahead (link_of q) x 0 → Ahead (link_of q) y 0 → x ≢ old_of q.move → y ≢ old_of q.move → q.key x ≡ q.key y → x ≡ y
   pub moved : Moved q q.move
   pub somewhere : (x : ℕ) → x ≢ 0 → x ≤ size → Somewhere q x
@@ -64,6 +64,10 @@ module _ {size : ℕ} {q : Pool} {stage rank : ℕ → ℕ} (s : Shaped size q s
   pub listed_stage : {x : ℕ} → Ahead (link_of q) x 0 → stage x ≡ 0
   listed_stage a =
       omega (arith, ahead_stage s.ordered (omega arith) a)
+
+  pub place_stage : {p : ℕ} → (p ≡ 0) ⊎ Ahead (link_of q) p 0 → stage p ≡ 0
+  place_stage (inl e) = cc
+  place_stage (inr a) = listed_stage a
 
   pub listed_chain : Chain (link_of q) 0 (reached size (link_of q) 0)
   listed_chain =

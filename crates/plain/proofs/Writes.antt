@@ -21,9 +21,6 @@ module _ (k v : ℕ) (q : Pool) (y : ℕ) (is : head_or_0 q.free ≡ y) where
   pub filled_elsewhere : (x : ℕ) → x ≢ y → link_of (filled k v q) x ≡ link_of q x
   filled_elsewhere x d = grind arith
 
-  pub other_key : (x : ℕ) → x ≢ y → (filled k v q).key x ≡ q.key x
-  other_key x d = grind arith
-
 -- ---- another node's record stays
 
 pub record_stays : (a : Area) (y x : ℕ) (v : Record) → y ≢ 0 → x ≢ 0 → x ≢ y → record_at (with_record y v a) x ≡ record_at a x
