@@ -3,10 +3,9 @@ pub mod Lists
 pub mod Links
 pub mod Reached
 -- the pool
-pub mod Writes
 pub mod Shape
+pub mod Writes
 pub mod Books
-pub mod Filling
 pub mod Placing
 pub mod Removing
 pub mod Grace

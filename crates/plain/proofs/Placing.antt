@@ -7,10 +7,9 @@ use Rattle.plain.specs.Pools.{Pool, Move, link_of, filled, placed_behind, with_m
 use Rattle.plain.specs.Boards.{Area, Record, with_record}
 use Rattle.plain.proofs.Links.{Ahead, next_at, ahead_ne, ahead_from, ahead_to, ahead_trans, Ordered, Spliced, splice_fwd, splice_back, splice_ordered}
 use Rattle.plain.proofs.Lists.{In, in_cases}
-use Rattle.plain.proofs.Writes.{record_stays}
+use Rattle.plain.proofs.Writes.{filling}
 use Rattle.plain.proofs.Shape.{Shaped, Somewhere, Moved, Carried, Turned, Owed, listed_stage, place_stage}
 use Rattle.plain.proofs.Books.{books_fill}
-use Rattle.plain.proofs.Filling.{filling}
 
 -- what a change of a pool gives: the pool is sound again, and readers that are awaited or not as before can tell no more than Turned says
 pub record Turn (size : ℕ) (q q' : Pool) (a a' : Area) (stage : ℕ → ℕ) : Type 0 where
@@ -28,7 +27,7 @@ module _ {size : ℕ} {q : Pool} {stage rank : ℕ → ℕ} (s : Shaped size q s
   kp : stage p ≡ 0
   kp = place_stage s pa
 
-  open filling s free k (link_of q p) kp use {free as fresh, at_p, at_y, elsewhere, key_new, key_old, stamp_old}
+  open filling s free k (link_of q p) kp use {free as fresh, at_p, at_y, elsewhere, key_new, key_old, others}
 
   spliced : Spliced (link_of q) (link_of q₁) p y
   spliced = record { at_p = at_p; at_y = at_y; rest = elsewhere }
@@ -97,11 +96,7 @@ module _ {size : ℕ} {q : Pool} {stage rank : ℕ → ℕ} (s : Shaped size q s
     shaped = record { ordered = ordered₁; books = rw free (books_fill (rw free at s.books)); keys_apart = keys_apart₁ o new; moved = mv; somewhere = λ x n l. still_somewhere x (s.somewhere x n l) };
     covered = refl;
     turned = λ aw. record {
-      kept = λ x n l. record {
-        key = key_old x (fresh.live_ne x l);
-        stamp = stamp_old x (fresh.live_ne x l);
-        fields = record_stays a y x v fresh.ne n (fresh.live_ne x l);
-      };
+      kept = others q.due m a v;
       guards = λ x g.
           let e = updated_elsewhere stage y x 0 (fresh.live_ne x g.live) in
           let l = g.live in

@@ -9,10 +9,9 @@ use Rattle.plain.specs.Boards.{Area, Record, with_record}
 use Rattle.plain.proofs.Links.{Ahead, next_at, ahead_ne, ahead_to, ahead_trans, ahead_stage, Ordered, Spliced, Skipped, splice_fwd, splice_back, splice_ordered, skip_fwd, skip_back, skip_lost, skip_ordered}
 use Rattle.plain.proofs.Lists.{In, in_cases}
 use Rattle.plain.proofs.Reached.{chain_ahead, ahead_chain, before_links}
-use Rattle.plain.proofs.Writes.{linked_there, record_stays}
+use Rattle.plain.proofs.Writes.{linked_there, filling}
 use Rattle.plain.proofs.Shape.{Shaped, Somewhere, Moved, Guarded, Carried, Owed, listed_stage, place_stage, listed_chain}
 use Rattle.plain.proofs.Books.{books_fill, books_retire}
-use Rattle.plain.proofs.Filling.{filling}
 use Rattle.plain.proofs.Placing.{Turn}
 
 module _ {size : ℕ} {q : Pool} {stage rank : ℕ → ℕ} (s : Shaped size q stage rank) (x : ℕ) (xa : Ahead (link_of q) x 0) where
@@ -119,7 +118,7 @@ module _ {size : ℕ} {q : Pool} {stage rank : ℕ → ℕ} (s : Shaped size q s
     abbrev q₂ : Pool
     q₂ = retired x mid
 
-    open filling s free k (link_of q x) kp use {free as fresh, at_p, at_y, elsewhere, key_new, key_old, stamp_old}
+    open filling s free k (link_of q x) kp use {free as fresh, at_p, at_y, elsewhere, key_new, key_old, others}
 
     p_ne : p ≢ y
     p_ne = fresh.live_ne p (omega (arith, kp))
@@ -268,7 +267,7 @@ module _ {size : ℕ} {q : Pool} {stage rank : ℕ → ℕ} (s : Shaped size q s
       };
       covered = refl;
       turned = λ aw. record {
-        kept = λ z n l. record { key = key_old z (fresh.live_ne z l); stamp = stamp_old z (fresh.live_ne z l); fields = record_stays a y z v fresh.ne n (fresh.live_ne z l) };
+        kept = others (x ∷ q.due) q.move a v;
         guards = guards₂ aw;
         back = λ u z l b. elim (back l b) [
           | inl e ↦ inr (cc (fresh.is_free), ahead_to (sym e) new_listed)
