@@ -20,7 +20,7 @@ pub record Turn (size : ℕ) (q q' : Pool) (a a' : Area) (stage : ℕ → ℕ) :
   pub turned : (aw : Bool) → Turned q q' a a' stage stage' aw aw
 
 module _ {size : ℕ} {q : Pool} {stage rank : ℕ → ℕ} (s : Shaped size q stage rank)
-    (k p y : ℕ) (rest : List ℕ) (free : q.free ≡ y ∷ rest) (pa : (p ≡ 0) ⊎ Ahead (link_of q) p 0) (m : Move) where
+    (k : ℕ) {p y : ℕ} {rest : List ℕ} (free : q.free ≡ y ∷ rest) (pa : (p ≡ 0) ⊎ Ahead (link_of q) p 0) (m : Move) where
   abbrev q₁ : Pool
   q₁ = with_move m (placed_behind k p q)
 

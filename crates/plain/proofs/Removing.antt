@@ -14,7 +14,7 @@ use Rattle.plain.proofs.Shape.{Shaped, Somewhere, Moved, Guarded, Carried, Owed,
 use Rattle.plain.proofs.Books.{books_fill, books_retire}
 use Rattle.plain.proofs.Placing.{Turn}
 
-module _ {size : ℕ} {q : Pool} {stage rank : ℕ → ℕ} (s : Shaped size q stage rank) (x : ℕ) (xa : Ahead (link_of q) x 0) where
+module _ {size : ℕ} {q : Pool} {stage rank : ℕ → ℕ} (s : Shaped size q stage rank) {x : ℕ} (xa : Ahead (link_of q) x 0) where
   -- the node before x
   abbrev p : ℕ
   p = before 0 x (reached size (link_of q) 0)
@@ -111,7 +111,7 @@ module _ {size : ℕ} {q : Pool} {stage rank : ℕ → ℕ} (s : Shaped size q s
 
   -- ---- y takes the place of x
 
-  module _ (k y : ℕ) (rest : List ℕ) (free : q.free ≡ y ∷ rest) where
+  module _ (k : ℕ) {y : ℕ} {rest : List ℕ} (free : q.free ≡ y ∷ rest) where
     abbrev mid : Pool
     mid = link_to p (head_or_0 q.free) (filled k (link_of q x) q)
 

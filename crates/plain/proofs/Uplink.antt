@@ -47,7 +47,7 @@ module _ {b : Board} {stage rank : ℕ → ℕ} (f : Fine b stage rank) (a : Are
       let some_free = passed.1.1.1.1.0 in
       let still = no_move q.move passed.1.1.1.1.1.1.0 in
       follows_pool f a (Call.put k h v w x y) (Answer.placed (head_or_0 q.free) q.next_stamp) (placed_behind k (after b h) q) (with_record (head_or_0 q.free) (made_record (making v w x y)) a)
-      (placing s k (after b h) (head_or_0 q.free) (tail q.free) (not_empty q.free some_free) (after_there h after_listed) q.move a (made_record (making v w x y))
+      (placing s k (not_empty q.free some_free) (after_there h after_listed) q.move a (made_record (making v w x y))
       (ap old_of still)
       (λ z az n. not_there s k not_listed z az)
       (rw still tt)
@@ -59,7 +59,7 @@ module _ {b : Board} {stage rank : ℕ → ℕ} (f : Fine b stage rank) (a : Are
       let some_free = passed.1.1.1.0 in
       let still = no_move q.move passed.1.1.1.1.1.0 in
       follows_pool f a (Call.swap k v w x y) (Answer.placed (head_or_0 q.free) q.next_stamp) _ _
-      (swapping s (node_of b k) there.0 k (head_or_0 q.free) (tail q.free) (not_empty q.free some_free) a (made_record (making v w x y)) still there.1)
+      (swapping s there.0 k (not_empty q.free some_free) a (made_record (making v w x y)) still there.1)
 
   cuts : (k : ℕ) → Passed (checks making b a (Call.cut k)) → Follows b a stage (moment (Call.cut k) (accepted making b a (Call.cut k)))
   cuts k passed =
@@ -67,13 +67,13 @@ module _ {b : Board} {stage rank : ℕ → ℕ} (f : Fine b stage rank) (a : Are
       let still = no_move q.move passed.1.1.0 in
       let x = node_of b k in
       follows_pool f a (Call.cut k) (Answer.removed x (q.stamp x)) (unlinked (before 0 x (listed b)) x q) a
-      (removing s x there.0 q.move a
+      (removing s there.0 q.move a
       (λ y z ay az dy dz ny nz i. s.keys_apart y z ay az ny nz i)
       (rw still tt)
       (not_owed still)
       (λ u l c. Carried.gone (λ w aw i.
-      let bw = was_ahead s x there.0 q.move aw in
-      not_listed s x there.0 q.move aw (s.keys_apart w x bw there.0 (no_old still bw) (no_old still there.0) i))))
+      let bw = was_ahead s there.0 q.move aw in
+      not_listed s there.0 q.move aw (s.keys_apart w x bw there.0 (no_old still bw) (no_old still there.0) i))))
 
   -- ---- a move
 
@@ -93,9 +93,9 @@ module _ {b : Board} {stage rank : ℕ → ℕ} (f : Fine b stage rank) (a : Are
     module _ (free : q.free ≡ new ∷ tail q.free) (there : (after b h ≡ 0) ⊎ Ahead lk (after b h) 0) (listed_old : Ahead lk old 0) (key : q.key old ≡ k) where
       two : Two (link_of q₁) q₁.key old new
       two = record {
-        old = still_ahead s k (after b h) new (tail q.free) free there the_move (omega arith) listed_old;
-        copy = new_listed s k (after b h) new (tail q.free) free there the_move;
-        differ = old_ne s k (after b h) new (tail q.free) free there the_move listed_old;
+        old = still_ahead s k free there the_move (omega arith) listed_old;
+        copy = new_listed s k free there the_move;
+        differ = old_ne s k free there the_move listed_old;
         alike = grind arith;
       }
 
@@ -109,7 +109,7 @@ module _ {b : Board} {stage rank : ℕ → ℕ} (f : Fine b stage rank) (a : Are
           let apart : node_of b h ≢ old = λ w. eqb-false h k other (cc) in
           let c = precedes_ahead (node_of b h) old (listed_chain s) (ahead_chain (listed_chain s) n.0) (ahead_chain (listed_chain s) listed_old) apart p.1 in
           let live = listed_stage s listed_old in
-          ahead_trans (still_ahead s k (after b h) new (tail q.free) free there the_move (omega arith) (ahead_to (sym at_h) c)) (behind_p s k (after b h) new (tail q.free) free there the_move)
+          ahead_trans (still_ahead s k free there the_move (omega arith) (ahead_to (sym at_h) c)) (behind_p s k free there the_move)
 
     old_is : (t : Bool) → old_of (cond t (Move.earlier old new Need.lacking) (Move.later old new)) ≡ old
     old_is true = refl
@@ -124,7 +124,7 @@ module _ {b : Board} {stage rank : ℕ → ℕ} (f : Fine b stage rank) (a : Are
         let still = no_move q.move passed.1.1.1.1.1.1.1.0 in
         let there = after_there h after_listed in
         follows_pool f a (Call.move k h) _ _ _
-        (placing s k (after b h) new (tail q.free) free there the_move a (record_at a old)
+        (placing s k free there the_move a (record_at a old)
         (ap old_of still)
         (λ z az d i. d (s.keys_apart z old az n.0 (no_old still az) (no_old still n.0) (cc) ∙ sym (old_is (is_earlier b k h))))
         (cond_both (is_earlier b k h) (Move.earlier old new Need.lacking) (Move.later old new) (Moved q₁)
@@ -153,7 +153,7 @@ module _ {b : Board} {stage rank : ℕ → ℕ} (f : Fine b stage rank) (a : Are
       let x = old_of q.move in
       let xa : Ahead lk x 0 = ahead_to (sym p.is_old) p.both.old in
       follows_pool f a Call.finish (Answer.removed x (q.stamp x)) (with_move Move.none (unlinked (before 0 x (listed b)) x q)) a
-      (removing s x xa Move.none a
+      (removing s xa Move.none a
       (λ y z ay az dy dz ny nz i. s.keys_apart y z ay az dy dz i)
       tt
       (λ aw c w. w)
@@ -167,8 +167,8 @@ module _ {b : Board} {stage rank : ℕ → ℕ} (f : Fine b stage rank) (a : Are
           let apart : c ≢ x = λ w. p.both.differ (cc) in
           let alike : q.key c ≡ q.key x = cc in
           elim p.way [
-            | inl w ↦ Carried.replaced c (Removing.still_ahead s x xa Move.none apart (ahead_trans ax (ahead_from (sym p.is_old) w))) alike
-            | inr w ↦ Carried.copied c w alike (λ ac. Removing.still_ahead s x xa Move.none apart ac)
+            | inl w ↦ Carried.replaced c (Removing.still_ahead s xa Move.none apart (ahead_trans ax (ahead_from (sym p.is_old) w))) alike
+            | inr w ↦ Carried.copied c w alike (λ ac. Removing.still_ahead s xa Move.none apart ac)
           ]
 
   -- ---- a step
