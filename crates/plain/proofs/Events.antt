@@ -1,6 +1,7 @@
 -- What each call does as far as visits, removals and waits go: to the scheme's meaning, and to the due and the covered chain (did).
 -- It is told in the scheme's own words, by a call of the scheme. Assumes nothing.
-use Rattle.std.proofs.Common.{◌≡◌, ℕ, Bool, true, false, not, ◌||◌, eqb, ◌↔◌, List, [], ◌∷◌, refl, ap, arith}
+use Rattle.std.specs.Prelude.{◌==◌}
+use Rattle.std.proofs.Common.{◌≡◌, ℕ, Bool, true, false, not, ◌||◌, ◌↔◌, List, [], ◌∷◌, refl, ap, arith}
 use Rattle.std.proofs.lemmas.Bool.{cond_both}
 use Rattle.scheme.specs.declared.interface.Poll.{Poll}
 use Rattle.scheme.specs.declared.interface.Poll.TheVariants.{NoWait, NotYet, Over}
@@ -175,7 +176,7 @@ module _ {b : Board} {stage rank : ℕ → ℕ} (f : Fine b stage rank) (a : Are
   quiet c res t n who due covered = Did.nothing (not_told t who) (not_removal n) (record { due = due; covered = covered })
 
   step_did : (r x : ℕ) → Did b (moment (Call.step r) (stepped b a r x))
-  step_did r x = cond_both (eqb x 0) _ _ (λ (res : Result). Did b (moment (Call.step r) res))
+  step_did r x = cond_both (x == 0) _ _ (λ (res : Result). Did b (moment (Call.step r) res))
       (λ e. quiet (Call.step r) _ refl refl refl refl refl)
       (λ e. cond_both (is_wanted (b.slots r).walk (b.pool.key x)) _ _ (λ (res : Result). Did b (moment (Call.step r) res))
       (λ w. quiet (Call.step r) _ refl refl refl refl refl)

@@ -1,6 +1,7 @@
 -- What holds of every board (Fine), and what one call gives (Follows).
 -- Each call of a reader that is no step, and tend, keep it. Assumes nothing.
-use Rattle.std.proofs.Common.{◌≡◌, ℕ, ◌<◌, ◌≤◌, Bool, true, false, cond, not, ◌||◌, ◌≢◌, [], length, sym, refl, ap, inl, inr, arith}
+use Rattle.std.specs.Prelude.{if◌then◌else◌}
+use Rattle.std.proofs.Common.{◌≡◌, ℕ, ◌<◌, ◌≤◌, Bool, true, false, not, ◌||◌, ◌≢◌, [], length, sym, refl, ap, inl, inr, arith}
 use Rattle.std.proofs.lemmas.Bool.{cases_eq, cond_both}
 use Rattle.scheme.specs.declared.interface.Poll.{Poll}
 use Rattle.scheme.specs.declared.interface.Poll.TheVariants.{NoWait, NotYet, Over}
@@ -183,7 +184,7 @@ module _ {b : Board} {stage rank : ℕ → ℕ} (f : Fine b stage rank) (a : Are
 -- what a poll can say, and when
 pub poll_cases : (m : Meaning) (P : Poll → Type 0) →
     (m.waits ≡ false → P NoWait) → (m.waits ≡ true → anybody m.awaited ≡ true → P NotYet) → (m.waits ≡ true → anybody m.awaited ≡ false → P Over) → P (on_poll m).answer
-poll_cases m P none not_yet over = cond_both m.waits (cond (anybody m.awaited) NotYet Over) NoWait P (λ e. cond_both (anybody m.awaited) NotYet Over P (not_yet e) (over e)) none
+poll_cases m P none not_yet over = cond_both m.waits (if anybody m.awaited then NotYet else Over) NoWait P (λ e. cond_both (anybody m.awaited) NotYet Over P (not_yet e) (over e)) none
 
 pub tend_follows : {b : Board} {stage rank : ℕ → ℕ} → Fine b stage rank → (a : Area) (making : Making) → Follows b a stage (moment Call.tend (accepted making b a Call.tend))
 tend_follows {b} {stage} f a making = poll_cases b.who (λ (said : Poll). Follows b a stage (moment Call.tend (tended b a said)))

@@ -1,6 +1,7 @@
 -- Which nodes are ahead of a place, by links, where place 0 is before the front; stages and ranks that fall along links.
 -- What splicing a node in, skipping one, and the start and the end of a wait do to them. Assumes nothing.
-use Rattle.std.proofs.Common.{◌≡◌, ℕ, suc, ◌+◌, ◌*◌, ◌<◌, ◌≤◌, cond, eqb, ◌≢◌, ◌⊎◌, sym, ap, ◌∙◌, subst, inl, inr, arith}
+use Rattle.std.specs.Prelude.{◌==◌, if◌then◌else◌}
+use Rattle.std.proofs.Common.{◌≡◌, ℕ, suc, ◌+◌, ◌*◌, ◌<◌, ◌≤◌, ◌≢◌, ◌⊎◌, sym, ap, ◌∙◌, subst, inl, inr, arith}
 use Rattle.std.proofs.lemmas.Bool.{cases_eq}
 use Rattle.scheme.specs.Meaning.{updated}
 
@@ -189,4 +190,4 @@ module _ {lk lk' stage rank : ℕ → ℕ} (o : Ordered lk stage rank) (p : ℕ)
 -- ---- a wait begins, or is found over: stage a becomes the next one
 
 abbrev pub raised : ℕ → ℕ → ℕ
-raised a k = cond (eqb k a) (suc a) k
+raised a k = if k == a then suc a else k

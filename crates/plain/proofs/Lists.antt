@@ -1,11 +1,13 @@
 -- Lists of numbers: what is in one, and lists whose numbers are apart.
 -- Of the numbers 1 to n, a list of some of them that are apart leaves out n less its length. Assumes nothing.
-use Rattle.std.proofs.Common.{◌≡◌, ℕ, zero, suc, ◌+◌, ◌<◌, ◌≤◌, Bool, true, false, not, ◌||◌, eqb, ltb, ◌⊎◌, List, [], ◌∷◌, ◌++◌, length, refl, ap, inl, inr, arith}
+use Rattle.std.specs.Prelude.{◌==◌, nat_lt}
+use Rattle.std.proofs.Common.{◌≡◌, ℕ, zero, suc, ◌+◌, ◌<◌, ◌≤◌, Bool, true, false, not, ◌||◌, ◌⊎◌, List, [], ◌∷◌, ◌++◌, length, refl, ap, inl, inr, arith}
 use Rattle.std.proofs.lemmas.Bool.{cases_eq, eqb-true, or_cases, or_right, lt-ltb, false_from_ne_true}
 use Rattle.scheme.specs.Counts.{one, count_below}
 use Rattle.plain.specs.Pools.{upto}
 use Rattle.plain.specs.Waits.{has}
 
+-- std's `Contains` says at which index x is: antt would not find the list from it, and every lemma and use would have to write the list and x
 pub data In (x : ℕ) : List ℕ → Type 0 where
   first : {y : ℕ} {ys : List ℕ} → x ≡ y → In x (y ∷ ys)
   later : {y : ℕ} {ys : List ℕ} → In x ys → In x (y ∷ ys)
@@ -66,11 +68,11 @@ apart_upto i (suc k) = one_more (λ m. omega (arith, in_upto (suc i) k m)) (apar
 
 has_in : (xs : List ℕ) {x : ℕ} → has xs x ≡ true → In x xs
 has_in [] t = cc
-has_in (y ∷ ys) {x} t = elim (or_cases (eqb x y) (has ys x) t) [ inl e ↦ first (eqb-true x y e) | inr h ↦ later (has_in ys h) ]
+has_in (y ∷ ys) {x} t = elim (or_cases (x == y) (has ys x) t) [ inl e ↦ first (eqb-true x y e) | inr h ↦ later (has_in ys h) ]
 
 in_has : {x : ℕ} {xs : List ℕ} → In x xs → has xs x ≡ true
 in_has {x} (first {y = y} {ys = ys} e) = grind arith
-in_has {x} (later {y = y} {ys = ys} i) = or_right (eqb x y) (has ys x) (in_has i)
+in_has {x} (later {y = y} {ys = ys} i) = or_right (x == y) (has ys x) (in_has i)
 
 has_not : (xs : List ℕ) (x : ℕ) → ¬ (In x xs) → has xs x ≡ false
 has_not xs x n = false_from_ne_true (has xs x) (λ t. n (has_in xs t))
@@ -83,12 +85,12 @@ count_all zero = refl
 count_all (suc n) = let rest = count_all n in let last : one true ≡ 1 = refl in omega arith
 
 -- the next lemma, from n to suc n
-one_further : (n x : ℕ) (has : ℕ → Bool) (a b : ℕ) → has (suc x) ≡ false → a + one (ltb x n) ≡ b →
-    a + one (not (eqb (suc n) (suc x) || has (suc n))) + one (ltb x (suc n)) ≡ b + one (not (has (suc n)))
+one_further : (n x : ℕ) (has : ℕ → Bool) (a b : ℕ) → has (suc x) ≡ false → a + one (nat_lt x n) ≡ b →
+    a + one (not (suc n == suc x || has (suc n))) + one (nat_lt x (suc n)) ≡ b + one (not (has (suc n)))
 one_further n x has a b d e = grind arith
 
 -- one number more in the list is one less that is left out
-more_in : (n x : ℕ) (xs : List ℕ) → has xs (suc x) ≡ false → count_below (left_out (suc x ∷ xs)) n + one (ltb x n) ≡ count_below (left_out xs) n
+more_in : (n x : ℕ) (xs : List ℕ) → has xs (suc x) ≡ false → count_below (left_out (suc x ∷ xs)) n + one (nat_lt x n) ≡ count_below (left_out xs) n
 more_in zero x xs d = grind arith
 more_in (suc n) x xs d = one_further n x (has xs) _ _ d (more_in n x xs d)
 
@@ -98,7 +100,7 @@ left_out_count n (one_more {x = zero} {xs = xs} d a) h = absurd (omega (arith, h
 left_out_count n (one_more {x = suc x} {xs = xs} d a) h =
     let rest = left_out_count n a (λ y i. h y (later i)) in
     let more = more_in n x xs (has_not xs (suc x) d) in
-    let below : one (ltb x n) ≡ 1 = ap one (lt-ltb x n (omega (arith, h (suc x) (first refl)))) in
+    let below : one (nat_lt x n) ≡ 1 = ap one (lt-ltb x n (omega (arith, h (suc x) (first refl)))) in
     omega arith
 
 -- so at most n numbers from 1 to n are apart

@@ -1,12 +1,12 @@
 -- A node is put on the list, by a put or a move:
 -- the pool is sound again, and readers can tell no more than Turned says. Assumes nothing.
-use Rattle.std.proofs.Common.{◌≡◌, ℕ, ◌+◌, ◌*◌, ◌<◌, ◌≤◌, Bool, ◌≢◌, ◌⊎◌, List, ◌∷◌, sym, refl, ap, ◌∙◌, inl, inr, arith}
+use Rattle.std.proofs.Common.{◌≡◌, ℕ, ◌+◌, ◌*◌, ◌<◌, Bool, ◌≢◌, ◌⊎◌, List, ◌∷◌, sym, refl, ◌∙◌, inl, inr, arith}
 use Rattle.scheme.specs.Meaning.{updated}
 use Rattle.scheme.proofs.Sets.{updated_elsewhere}
-use Rattle.plain.specs.Pools.{Pool, Move, link_of, filled, placed_behind, with_move, head_or_0, old_of}
+use Rattle.plain.specs.Pools.{Pool, Move, link_of, placed_behind, with_move, old_of}
 use Rattle.plain.specs.Boards.{Area, Record, with_record}
 use Rattle.plain.proofs.Links.{Ahead, next_at, ahead_ne, ahead_from, ahead_to, ahead_trans, Ordered, Spliced, splice_fwd, splice_back, splice_ordered}
-use Rattle.plain.proofs.Lists.{In, in_cases}
+use Rattle.plain.proofs.Lists.{in_cases}
 use Rattle.plain.proofs.Writes.{filling}
 use Rattle.plain.proofs.Shape.{Shaped, Somewhere, Moved, Carried, Turned, Owed, listed_stage, place_stage}
 use Rattle.plain.proofs.Books.{books_fill}

@@ -1,6 +1,7 @@
 -- The chain of nodes ahead of a place, as a list: the node before another, who precedes whom, the first with a key.
 -- The board's own chain, which is followed no further than its size, is the whole chain. Assumes nothing.
-use Rattle.std.proofs.Common.{◌≡◌, ℕ, zero, suc, ◌<◌, ◌≤◌, true, false, cond, eqb, ◌≢◌, ◌⊎◌, List, [], ◌∷◌, length, sym, refl, ap, ◌∙◌, inl, inr, arith}
+use Rattle.std.specs.Prelude.{◌==◌, if◌then◌else◌}
+use Rattle.std.proofs.Common.{◌≡◌, ℕ, zero, suc, ◌<◌, ◌≤◌, true, false, ◌≢◌, ◌⊎◌, List, [], ◌∷◌, length, sym, refl, ap, ◌∙◌, inl, inr, arith}
 use Rattle.std.proofs.lemmas.Bool.{eqb-true, eqb-false, cond_both}
 use Rattle.plain.specs.Pools.{reached, holder, before, precedes}
 use Rattle.plain.proofs.Links.{Ahead, ahead_ne, next_at, more_at, ahead_from, Ordered, not_ahead_of_itself, ahead_stage}
@@ -27,7 +28,7 @@ ahead_chain (link e n c) (Ahead.more m a) = In.later (ahead_chain c (ahead_from 
 -- the node before x has x behind it
 pub before_links : {lk : ℕ → ℕ} {p x : ℕ} {l : List ℕ} → Chain lk p l → In x l → (lk (before p x l) ≡ x) × ((before p x l ≡ p) ⊎ In (before p x l) l)
 before_links (stop e) m = elim m [ ]
-before_links {lk} {p} {x} (link {y = y} {ys = ys} e n c) m = cond_both (eqb y x) p (before y x ys) (λ b. (lk b ≡ x) × ((b ≡ p) ⊎ In b (y ∷ ys)))
+before_links {lk} {p} {x} (link {y = y} {ys = ys} e n c) m = cond_both (y == x) p (before y x ys) (λ b. (lk b ≡ x) × ((b ≡ p) ⊎ In b (y ∷ ys)))
     (λ q. (grind arith, inl refl))
     (λ q. elim (in_cases m) [
       | inl w ↦ absurd (eqb-false y x q (sym w))
@@ -39,14 +40,14 @@ before_links {lk} {p} {x} (link {y = y} {ys = ys} e n c) m = cond_both (eqb y x)
 -- of two nodes of the chain, one that does not precede the other is ahead of it
 pub precedes_ahead : {lk : ℕ → ℕ} {p : ℕ} (x y : ℕ) {l : List ℕ} → Chain lk p l → In x l → In y l → x ≢ y → precedes x y l ≡ false → Ahead lk x y
 precedes_ahead x y (stop e) i j d = elim i [ ]
-precedes_ahead {lk} x y (link {y = z} {ys = zs} e n c) i j d = cond_both (eqb z y) false (cond (eqb z x) true (precedes x y zs)) (λ b. b ≡ false → Ahead lk x y)
+precedes_ahead {lk} x y (link {y = z} {ys = zs} e n c) i j d = cond_both (z == y) false (if z == x then true else precedes x y zs) (λ b. b ≡ false → Ahead lk x y)
     (λ q f.
     let w : z ≡ y = eqb-true z y q in
     elim (in_cases i) [
       | inl v ↦ absurd (d (v ∙ w))
       | inr k ↦ ahead_from w (chain_ahead c k)
     ])
-    (λ q. cond_both (eqb z x) true (precedes x y zs) (λ b. b ≡ false → Ahead lk x y)
+    (λ q. cond_both (z == x) true (precedes x y zs) (λ b. b ≡ false → Ahead lk x y)
     (λ v f. cc)
     (λ v f. elim (in_cases i) [
       | inl w ↦ absurd (eqb-false z x v (sym w))
@@ -60,13 +61,13 @@ precedes_ahead {lk} x y (link {y = z} {ys = zs} e n c) i j d = cond_both (eqb z 
 
 pub holder_holds : (keys : ℕ → ℕ) (k : ℕ) (l : List ℕ) → holder keys k l ≢ 0 → In (holder keys k l) l × (keys (holder keys k l) ≡ k)
 holder_holds keys k [] = λ n. absurd (n refl)
-holder_holds keys k (x ∷ xs) = cond_both (eqb (keys x) k) x (holder keys k xs) (λ h. h ≢ 0 → In h (x ∷ xs) × (keys h ≡ k))
+holder_holds keys k (x ∷ xs) = cond_both (keys x == k) x (holder keys k xs) (λ h. h ≢ 0 → In h (x ∷ xs) × (keys h ≡ k))
     (λ e n. (In.first refl, eqb-true (keys x) k e))
     (λ e n. let r = holder_holds keys k xs n in (In.later r.0, r.1))
 
 pub holder_there : (keys : ℕ → ℕ) (k : ℕ) (l : List ℕ) (x : ℕ) → ((y : ℕ) → In y l → y ≢ 0) → In x l → keys x ≡ k → holder keys k l ≢ 0
 holder_there keys k [] x h m e = elim m [ ]
-holder_there keys k (y ∷ ys) x h m e = cond_both (eqb (keys y) k) y (holder keys k ys) (λ v. v ≢ 0)
+holder_there keys k (y ∷ ys) x h m e = cond_both (keys y == k) y (holder keys k ys) (λ v. v ≢ 0)
     (λ q. h y (In.first refl))
     (λ q. elim (in_cases m) [
       | inl w ↦ absurd (eqb-false (keys y) k q (cc))
@@ -78,7 +79,7 @@ holder_there keys k (y ∷ ys) x h m e = cond_both (eqb (keys y) k) y (holder ke
 module _ (lk : ℕ → ℕ) where
   in_reached : (f p : ℕ) {x : ℕ} → In x (reached f lk p) → Ahead lk x p
   in_reached zero p m = elim m [ ]
-  in_reached (suc f) p {x} m = cond_both (eqb (lk p) 0) [] (lk p ∷ reached f lk (lk p)) (λ l. In x l → Ahead lk x p)
+  in_reached (suc f) p {x} m = cond_both (lk p == 0) [] (lk p ∷ reached f lk (lk p)) (λ l. In x l → Ahead lk x p)
       (λ q j. elim j [ ])
       (λ q j.
       let n = eqb-false (lk p) 0 q in
@@ -90,7 +91,7 @@ module _ (lk : ℕ → ℕ) where
 
   full_or_chain : (f p : ℕ) → (length (reached f lk p) ≡ f) ⊎ Chain lk p (reached f lk p)
   full_or_chain zero p = inl refl
-  full_or_chain (suc f) p = cond_both (eqb (lk p) 0) [] (lk p ∷ reached f lk (lk p)) (λ l. (length l ≡ suc f) ⊎ Chain lk p l)
+  full_or_chain (suc f) p = cond_both (lk p == 0) [] (lk p ∷ reached f lk (lk p)) (λ l. (length l ≡ suc f) ⊎ Chain lk p l)
       (λ q. inr (stop (eqb-true (lk p) 0 q)))
       (λ q. elim (full_or_chain f (lk p)) [ inl h ↦ inl (ap suc h) | inr c ↦ inr (link refl (eqb-false (lk p) 0 q) c) ])
 
@@ -105,7 +106,7 @@ module _ (lk : ℕ → ℕ) where
   module _ {stage rank : ℕ → ℕ} (o : Ordered lk stage rank) where
     pub reached_apart : (f p : ℕ) → stage p < 3 → Apart (reached f lk p)
     reached_apart zero p l = Apart.nothing
-    reached_apart (suc f) p l = cond_both (eqb (lk p) 0) [] (lk p ∷ reached f lk (lk p)) Apart
+    reached_apart (suc f) p l = cond_both (lk p == 0) [] (lk p ∷ reached f lk (lk p)) Apart
         (λ q. Apart.nothing)
         (λ q.
         let k : stage (lk p) < 3 = omega arith in

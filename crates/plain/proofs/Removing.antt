@@ -1,6 +1,6 @@
 -- A node is taken off the list, by a cut, by the finish of a move, or by a swap, which puts another in its place:
 -- the pool is sound again, and readers can tell no more than Turned says. Assumes nothing.
-use Rattle.std.proofs.Common.{◌≡◌, ℕ, ◌+◌, ◌*◌, ◌<◌, ◌≤◌, Bool, ◌≢◌, ◌⊎◌, List, ◌∷◌, sym, refl, ap, ◌∙◌, inl, inr, arith}
+use Rattle.std.proofs.Common.{◌≡◌, ℕ, ◌+◌, ◌*◌, ◌<◌, Bool, ◌≢◌, ◌⊎◌, List, ◌∷◌, sym, refl, ap, ◌∙◌, inl, inr, arith}
 use Rattle.std.proofs.lemmas.Bool.{cases_eq}
 use Rattle.scheme.specs.Meaning.{updated}
 use Rattle.scheme.proofs.Sets.{updated_at, updated_elsewhere}

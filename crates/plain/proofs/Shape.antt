@@ -1,6 +1,7 @@
 -- What holds of the pool of every board (Shaped), with the stage of each node: 0 listed, 1 due, 2 covered, 3 free.
 -- What a call may do to a pool, as far as a reader can tell (Turned). Assumes nothing.
-use Rattle.std.proofs.Common.{◌≡◌, ℕ, ◌<◌, ◌≤◌, Bool, true, false, not, eqb, ◌≢◌, ◌⊎◌, List, inl, inr, arith}
+use Rattle.std.specs.Prelude.{◌==◌}
+use Rattle.std.proofs.Common.{◌≡◌, ℕ, ◌<◌, ◌≤◌, Bool, true, false, not, ◌≢◌, ◌⊎◌, List, inl, inr, arith}
 use Rattle.std.proofs.lemmas.Bool.Decides.{nat_tests}
 use Rattle.plain.specs.Pools.{Pool, Move, Need, link_of, reached, holder, old_of}
 use Rattle.plain.specs.Boards.{Area, record_at}
@@ -60,6 +61,10 @@ pub record Shaped (size : ℕ) (q : Pool) (stage rank : ℕ → ℕ) : Type 0 wh
   pub moved : Moved q q.move
   pub somewhere : (x : ℕ) → x ≢ 0 → x ≤ size → Somewhere q x
 
+-- the listed node with the key k, or 0
+abbrev holding : ℕ → Pool → ℕ → ℕ
+holding size q k = holder q.key k (reached size (link_of q) 0)
+
 module _ {size : ℕ} {q : Pool} {stage rank : ℕ → ℕ} (s : Shaped size q stage rank) where
   pub listed_stage : {x : ℕ} → Ahead (link_of q) x 0 → stage x ≡ 0
   listed_stage a =
@@ -73,20 +78,16 @@ module _ {size : ℕ} {q : Pool} {stage rank : ℕ → ℕ} (s : Shaped size q s
   listed_chain =
       sized_chain (link_of q) s.ordered size 0 (omega arith) s.books.bounded
 
-  pub node_there : (k : ℕ) → not (eqb (holder q.key k (reached size (link_of q) 0)) 0) ≡ true →
-      Ahead (link_of q) (holder q.key k (reached size (link_of q) 0)) 0
-      × (q.key (holder q.key k (reached size (link_of q) 0)) ≡ k)
+  pub node_there : (k : ℕ) → not (holding size q k == 0) ≡ true → Ahead (link_of q) (holding size q k) 0 × (q.key (holding size q k) ≡ k)
   node_there k e =
-      let l = reached size (link_of q) 0 in
-      let h = holder_holds q.key k l (grind arith) in
+      let h = holder_holds q.key k (reached size (link_of q) 0) (grind arith) in
       (chain_ahead listed_chain h.0, h.1)
 
-  pub there : (k x : ℕ) → Ahead (link_of q) x 0 → q.key x ≡ k → not (eqb (holder q.key k (reached size (link_of q) 0)) 0) ≡ true
+  pub there : (k x : ℕ) → Ahead (link_of q) x 0 → q.key x ≡ k → not (holding size q k == 0) ≡ true
   there k x a e =
-      let l = reached size (link_of q) 0 in
-      grind (arith, nat_tests, holder_there q.key k l x (λ y i. ahead_ne (chain_ahead listed_chain i)) (ahead_chain listed_chain a) e)
+      grind (arith, nat_tests, holder_there q.key k (reached size (link_of q) 0) x (λ y i. ahead_ne (chain_ahead listed_chain i)) (ahead_chain listed_chain a) e)
 
-  pub not_there : (k : ℕ) → not (eqb (holder q.key k (reached size (link_of q) 0)) 0) ≡ false → (x : ℕ) → Ahead (link_of q) x 0 → q.key x ≢ k
+  pub not_there : (k : ℕ) → not (holding size q k == 0) ≡ false → (x : ℕ) → Ahead (link_of q) x 0 → q.key x ≢ k
   not_there k f x a e = cc (there k x a e)
 
 -- ---- what a reader can tell of a change; aw says whether it is awaited

@@ -1,6 +1,7 @@
 -- What an answer tells of the reader that called: sightings, the end of a walk, its start; and whose place stays at a call.
 -- This is shown once for every call (told). Assumes nothing.
-use Rattle.std.proofs.Common.{◌≡◌, ℕ, Bool, true, false, eqb, ◌≢◌, ◌⊎◌, sym, refl, ap, subst, inl, inr, arith}
+use Rattle.std.specs.Prelude.{◌==◌}
+use Rattle.std.proofs.Common.{◌≡◌, ℕ, Bool, true, false, ◌≢◌, ◌⊎◌, sym, refl, ap, subst, inl, inr, arith}
 use Rattle.std.proofs.lemmas.Bool.{cases_eq, eqb-true, eqb-false, cond_both}
 use Rattle.record.specs.Making.{Making}
 use Rattle.plain.specs.Pools.{link_of}
@@ -166,7 +167,7 @@ module _ {b : Board} {stage rank : ℕ → ℕ} (f : Fine b stage rank) (a : Are
   told_step making r passed =
       let i : b.who.inside r ≡ true = grind arith in
       let z = link_of b.pool (b.slots r).place in
-      cond_both (eqb z 0) _ _ (λ (res : Result). Told b a (moment (Call.step r) res))
+      cond_both (z == 0) _ _ (λ (res : Result). Told b a (moment (Call.step r) res))
       (λ w. told_end r (eqb-true z 0 w))
       (λ w. cond_both (is_wanted (b.slots r).walk (b.pool.key z)) _ _ (λ (res : Result). Told b a (moment (Call.step r) res))
       (λ v. told_on r i (record { walk = Walk.none; place = z }) (Answer.found z (b.pool.stamp z) (b.pool.key z)) refl (eqb-false z 0 w) (StepsOn.by_found _ _ _ refl refl) only_found (λ e. cc))
@@ -177,7 +178,7 @@ module _ {b : Board} {stage rank : ℕ → ℕ} (f : Fine b stage rank) (a : Are
   told_aside : (making : Making) (r k : ℕ) → Passed (checks making b a (Call.aside r k)) → Told b a (moment (Call.aside r k) (accepted making b a (Call.aside r k)))
   told_aside making r k passed =
       let i : b.who.inside r ≡ true = grind arith in
-      cond_both (eqb x 0) Answer.none (Answer.found_aside x (b.pool.stamp x) k (record_at a x))
+      cond_both (x == 0) Answer.none (Answer.found_aside x (b.pool.stamp x) k (record_at a x))
       (λ (w : Answer). Told b a (moment (Call.aside r k) (unchanged b a w)))
       (λ z. beside Answer.none (λ u y t. absurd (none_sighted t)))
       (λ z. beside (Answer.found_aside x (b.pool.stamp x) k (record_at a x)) (λ u y t. found_there i (eqb-false x 0 z) t))

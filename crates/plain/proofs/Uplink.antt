@@ -1,6 +1,7 @@
 -- Each accepted put, swap, cut, move, finish and step keeps what holds of every board.
 -- So does every call, accepted or refused (follows). Assumes nothing.
-use Rattle.std.proofs.Common.{◌≡◌, ℕ, ◌<◌, Bool, true, false, cond, not, ◌&&◌, eqb, ◌≢◌, ◌⊎◌, ◌∷◌, ℤ, sym, refl, ap, ◌∙◌, inl, inr, arith}
+use Rattle.std.specs.Prelude.{◌==◌, if◌then◌else◌}
+use Rattle.std.proofs.Common.{◌≡◌, ℕ, ◌<◌, Bool, true, false, not, ◌&&◌, ◌≢◌, ◌⊎◌, ◌∷◌, ℤ, sym, refl, ap, ◌∙◌, inl, inr, arith}
 use Rattle.std.proofs.lemmas.Bool.{cases_eq, ne_eqb, eqb-false, cond_both, or_parts}
 use Rattle.record.specs.Making.{Making}
 use Rattle.plain.specs.Pools.{Pool, Move, Need, link_of, precedes, old_of, under_way, lacks_wait, with_move, placed_behind, unlinked, before, head_or_0, tail}
@@ -28,7 +29,7 @@ module _ {b : Board} {stage rank : ℕ → ℕ} (f : Fine b stage rank) (a : Are
   s : Shaped b.size b.pool stage rank
   s = f.shaped
 
-  after_there : (k : ℕ) → (not (eqb k 0) && not (is_listed b k)) ≡ false → (after b k ≡ 0) ⊎ Ahead lk (after b k) 0
+  after_there : (k : ℕ) → (not (k == 0) && not (is_listed b k)) ≡ false → (after b k ≡ 0) ⊎ Ahead lk (after b k) 0
   after_there k e = elim (cases_eq k 0) [
     | inl z ↦ inl (grind arith)
     | inr n ↦ inr (rw (ne_eqb k 0 n) (node_there s k (grind arith)).0)
@@ -85,7 +86,7 @@ module _ {b : Board} {stage rank : ℕ → ℕ} (f : Fine b stage rank) (a : Are
     new = head_or_0 q.free
 
     abbrev the_move : Move
-    the_move = cond (is_earlier b k h) (Move.earlier old new Need.lacking) (Move.later old new)
+    the_move = if is_earlier b k h then Move.earlier old new Need.lacking else Move.later old new
 
     abbrev q₁ : Pool
     q₁ = with_move the_move (placed_behind k (after b h) q)
@@ -100,9 +101,9 @@ module _ {b : Board} {stage rank : ℕ → ℕ} (f : Fine b stage rank) (a : Are
       }
 
       -- a move that is not earlier puts the copy behind the old node
-      behind : (not (eqb h 0) && not (is_listed b h)) ≡ false → eqb h k ≡ false → is_earlier b k h ≡ false → Ahead (link_of q₁) new old
+      behind : (not (h == 0) && not (is_listed b h)) ≡ false → (h == k) ≡ false → is_earlier b k h ≡ false → Ahead (link_of q₁) new old
       behind after_listed other not_earlier =
-          let p = or_parts (eqb h 0) (precedes (node_of b h) (node_of b k) (listed b)) not_earlier in
+          let p = or_parts (h == 0) (precedes (node_of b h) (node_of b k) (listed b)) not_earlier in
           let at_h : after b h ≡ node_of b h = rw p.0 in
           let l : is_listed b h ≡ true = grind arith in
           let n = node_there s h l in
@@ -111,7 +112,7 @@ module _ {b : Board} {stage rank : ℕ → ℕ} (f : Fine b stage rank) (a : Are
           let live = listed_stage s listed_old in
           ahead_trans (still_ahead s k free there the_move (omega arith) (ahead_to (sym at_h) c)) (behind_p s k free there the_move)
 
-    old_is : (t : Bool) → old_of (cond t (Move.earlier old new Need.lacking) (Move.later old new)) ≡ old
+    old_is : (t : Bool) → old_of (if t then Move.earlier old new Need.lacking else Move.later old new) ≡ old
     old_is true = refl
     old_is false = refl
 
@@ -182,7 +183,7 @@ module _ {b : Board} {stage rank : ℕ → ℕ} (f : Fine b stage rank) (a : Are
       let i : b.who.inside r ≡ true = grind arith in
       let z = lk (b.slots r).place in
       let g = goes_on (b.who.awaited r) (b.slots r).place (f.rests r i) in
-      cond_both (eqb z 0) _ _ (λ (res : Result). Follows b a stage (moment (Call.step r) res))
+      cond_both (z == 0) _ _ (λ (res : Result). Follows b a stage (moment (Call.step r) res))
       (λ w. follows_slot f a (Call.step r) Answer.end r at_rest (at_head f a (b.who.awaited r)))
       (λ w. cond_both (is_wanted (b.slots r).walk (q.key z)) _ _ (λ (res : Result). Follows b a stage (moment (Call.step r) res))
       (λ v. follows_slot f a (Call.step r) (Answer.found z (q.stamp z) (q.key z)) r (record { walk = Walk.none; place = z }) g)
