@@ -66,16 +66,10 @@ module _ {size : ℕ} {q : Pool} {stage rank : ℕ → ℕ} (s : Shaped size q s
   -- the keys are apart if no listed node but the one that is moved has the key k
   keys_apart₁ : old_of q.move ≡ 0 → ((x : ℕ) → Ahead (link_of q) x 0 → x ≢ old_of m → q.key x ≢ k) → KeysApart
   unfolding KeysApart
-  keys_apart₁ o new x z ax az nx nz e = elim (listed_before ax) [
-    | inl ex ↦ elim (listed_before az) [
-      | inl ez ↦ cc
-      | inr bz ↦ absurd (new z bz nz (cc (key_old z (old_ne bz), key_new)))
-    ]
-    | inr bx ↦ elim (listed_before az) [
-      | inl ez ↦ absurd (new x bx nx (cc (key_old x (old_ne bx), key_new)))
-      | inr bz ↦ s.keys_apart x z bx bz (λ w. ahead_ne bx (w ∙ o)) (λ w. ahead_ne bz (w ∙ o)) (grind arith)
-    ]
-  ]
+  keys_apart₁ o new x z ax az nx nz e =
+      let bx = listed_before ax in
+      let bz = listed_before az in
+      grind (arith, new, key_new, key_old, old_ne, ahead_ne, s.keys_apart x z)
 
   still_somewhere : (x : ℕ) → Somewhere q x → Somewhere q₁ x
   still_somewhere x (Somewhere.on_list c) = Somewhere.on_list (still_ahead listed_live c)

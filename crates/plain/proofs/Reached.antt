@@ -39,23 +39,11 @@ before_links {lk} {p} {x} (link {y = y} {ys = ys} e n c) m = cond_both (y == x) 
 
 -- of two nodes of the chain, one that does not precede the other is ahead of it
 pub precedes_ahead : {lk : ℕ → ℕ} {p : ℕ} (x y : ℕ) {l : List ℕ} → Chain lk p l → In x l → In y l → x ≢ y → precedes x y l ≡ false → Ahead lk x y
-precedes_ahead x y (stop e) i j d = elim i [ ]
-precedes_ahead {lk} x y (link {y = z} {ys = zs} e n c) i j d = cond_both (z == y) false (if z == x then true else precedes x y zs) (λ b. b ≡ false → Ahead lk x y)
-    (λ q f.
-    let w : z ≡ y = eqb-true z y q in
-    elim (in_cases i) [
-      | inl v ↦ absurd (d (v ∙ w))
-      | inr k ↦ ahead_from w (chain_ahead c k)
-    ])
-    (λ q. cond_both (z == x) true (precedes x y zs) (λ b. b ≡ false → Ahead lk x y)
-    (λ v f. cc)
-    (λ v f. elim (in_cases i) [
-      | inl w ↦ absurd (eqb-false z x v (sym w))
-      | inr i' ↦ elim (in_cases j) [
-        | inl w ↦ absurd (eqb-false z y q (sym w))
-        | inr j' ↦ precedes_ahead x y c i' j' d f
-      ]
-    ]))
+precedes_ahead x y (stop e) i j d f = elim i [ ]
+precedes_ahead {lk} x y (link {y = z} {ys = zs} e n c) i j d f =
+    let v = in_cases i in
+    let w = in_cases j in
+    grind (arith, chain_ahead {x = x} c, precedes_ahead x y c)
 
 -- ---- the first node with a key
 
@@ -67,12 +55,9 @@ holder_holds keys k (x ∷ xs) = cond_both (keys x == k) x (holder keys k xs) (�
 
 pub holder_there : (keys : ℕ → ℕ) (k : ℕ) (l : List ℕ) (x : ℕ) → ((y : ℕ) → In y l → y ≢ 0) → In x l → keys x ≡ k → holder keys k l ≢ 0
 holder_there keys k [] x h m e = elim m [ ]
-holder_there keys k (y ∷ ys) x h m e = cond_both (keys y == k) y (holder keys k ys) (λ v. v ≢ 0)
-    (λ q. h y (In.first refl))
-    (λ q. elim (in_cases m) [
-      | inl w ↦ absurd (eqb-false (keys y) k q (cc))
-      | inr i ↦ holder_there keys k ys x (λ z j. h z (In.later j)) i e
-    ])
+holder_there keys k (y ∷ ys) x h m e =
+    let c = in_cases m in
+    grind (arith, h y (In.first refl), holder_there keys k ys x (λ z j. h z (In.later j)))
 
 -- ---- the chain that is followed no further than the size
 

@@ -222,16 +222,10 @@ module _ {size : ℕ} {q : Pool} {stage rank : ℕ → ℕ} (s : Shaped size q s
     ]
 
     keys₂ : q.move ≡ Move.none → q.key x ≡ k → (a b : ℕ) → Ahead (link_of q₂) a 0 → Ahead (link_of q₂) b 0 → q₂.key a ≡ q₂.key b → a ≡ b
-    keys₂ still ex a b aa ab e = elim (back head_live aa) [
-      | inl ea ↦ elim (back head_live ab) [
-        | inl eb ↦ cc
-        | inr cb ↦ absurd (alone b ab cb (grind arith))
-      ]
-      | inr ca ↦ elim (back head_live ab) [
-        | inl eb ↦ absurd (alone a aa ca (grind arith))
-        | inr cb ↦ s.keys_apart a b ca cb (no_old ca) (no_old cb) (cc (key_old a (old_ne ca), key_old b (old_ne cb)))
-      ]
-    ]
+    keys₂ still ex a b aa ab e =
+        let ca = back head_live aa in
+        let cb = back head_live ab in
+        grind (arith, alone, key_new, key_old, old_ne, no_old, s.keys_apart a b)
       where
         no_old : {z : ℕ} → Ahead (link_of q) z 0 → z ≢ old_of q.move
         no_old c i = ahead_ne c (cc)
