@@ -28,14 +28,11 @@ ahead_chain (link e n c) (Ahead.more m a) = In.later (ahead_chain c (ahead_from 
 -- the node before x has x behind it
 pub before_links : {lk : ℕ → ℕ} {p x : ℕ} {l : List ℕ} → Chain lk p l → In x l → (lk (before p x l) ≡ x) × ((before p x l ≡ p) ⊎ In (before p x l) l)
 before_links (stop e) m = elim m [ ]
-before_links {lk} {p} {x} (link {y = y} {ys = ys} e n c) m = cond_both (y == x) p (before y x ys) (λ b. (lk b ≡ x) × ((b ≡ p) ⊎ In b (y ∷ ys)))
-    (λ q. (grind arith, inl refl))
-    (λ q. elim (in_cases m) [
-      | inl w ↦ absurd (eqb-false y x q (sym w))
-      | inr i ↦
-          let b = before_links c i in
-          (b.0, inr (elim b.1 [ inl w ↦ In.first w | inr j ↦ In.later j ]))
-    ])
+before_links {lk} {p} {x} (link {y = y} {ys = ys} e n c) m =
+    let w = in_cases m in
+    let here : In y (y ∷ ys) = In.first refl in
+    let later : (z : ℕ) → In z ys → In z (y ∷ ys) = λ z i. In.later i in
+    grind (arith, before_links {x = x} c, later)
 
 -- of two nodes of the chain, one that does not precede the other is ahead of it
 pub precedes_ahead : {lk : ℕ → ℕ} {p : ℕ} (x y : ℕ) {l : List ℕ} → Chain lk p l → In x l → In y l → x ≢ y → precedes x y l ≡ false → Ahead lk x y

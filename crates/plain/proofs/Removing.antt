@@ -234,7 +234,7 @@ module _ {size : ℕ} {q : Pool} {stage rank : ℕ → ℕ} (s : Shaped size q s
         old_ne c = fresh.live_ne _ (omega (arith, listed_stage s c))
 
         alone : (z : ℕ) → Ahead (link_of q₂) z 0 → Ahead (link_of q) z 0 → q₂.key z ≢ k
-        alone z az cz i = not_x az (s.keys_apart z x cz xa (no_old cz) (no_old xa) (cc (key_old z (old_ne cz))))
+        alone z az cz i = grind (arith, not_x az, key_old z (old_ne cz), s.keys_apart z x cz xa (no_old cz) (no_old xa))
 
     still_somewhere₂ : (z : ℕ) → Somewhere q z → Somewhere q₂ z
     still_somewhere₂ z (Somewhere.on_list c) = elim (cases_eq z x) [

@@ -112,10 +112,6 @@ module _ {b : Board} {stage rank : ℕ → ℕ} (f : Fine b stage rank) (a : Are
           let live = listed_stage s listed_old in
           ahead_trans (still_ahead s k free there the_move (omega arith) (ahead_to (sym at_h) c)) (behind_p s k free there the_move)
 
-    old_is : (t : Bool) → old_of (if t then Move.earlier old new Need.lacking else Move.later old new) ≡ old
-    old_is true = refl
-    old_is false = refl
-
     moves : Passed (checks making b a (Call.move k h)) → Follows b a stage (moment (Call.move k h) (accepted making b a (Call.move k h)))
     moves passed =
         let n = node_there s k (grind arith) in
@@ -127,11 +123,11 @@ module _ {b : Board} {stage rank : ℕ → ℕ} (f : Fine b stage rank) (a : Are
         follows_pool f a (Call.move k h) _ _ _
         (placing s k free there the_move a (record_at a old)
         (ap old_of still)
-        (λ z az d i. d (s.keys_apart z old az n.0 (no_old still az) (no_old still n.0) (cc) ∙ sym (old_is (is_earlier b k h))))
+        (λ z az d i. d (grind (arith, s.keys_apart z old az n.0 (no_old still az) (no_old still n.0))))
         (cond_both (is_earlier b k h) (Move.earlier old new Need.lacking) (Move.later old new) (Moved q₁)
         (λ t. two free there n.0 n.1)
         (λ t. (two free there n.0 n.1, behind free there n.0 n.1 after_listed other t)))
-        (λ aw c w. cond_both (is_earlier b k h) (Move.earlier old new Need.lacking) (Move.later old new) (λ (d : Move). Owed d aw c → ⊥) (λ t v. v) (λ t v. v) w))
+        (λ aw c w. grind arith))
 
   -- ---- the finish of a move
 
