@@ -8,7 +8,7 @@ use Rattle.plain.specs.Boards.{Area, Record, with_record}
 use Rattle.plain.proofs.Links.{Ahead, next_at, ahead_ne, ahead_from, ahead_to, ahead_trans, Ordered, Spliced, splice_fwd, splice_back, splice_ordered}
 use Rattle.plain.proofs.Lists.{in_cases}
 use Rattle.plain.proofs.Writes.{filling}
-use Rattle.plain.proofs.Shape.{Shaped, Somewhere, Moved, Carried, Turned, Owed, listed_stage, place_stage}
+use Rattle.plain.proofs.Shape.{Shaped, Somewhere, Moved, Carried, Turned, Owed, guarded_set, listed_stage, place_stage}
 use Rattle.plain.proofs.Books.{books_fill}
 
 -- what a change of a pool gives: the pool is sound again, and readers that are awaited or not as before can tell no more than Turned says
@@ -29,14 +29,14 @@ module _ {size : ℕ} {q : Pool} {stage rank : ℕ → ℕ} (s : Shaped size q s
 
   open filling s free k (link_of q p) kp use {free as fresh, at_p, at_y, elsewhere, key_new, key_old, others}
 
-  spliced : Spliced (link_of q) (link_of q₁) p y
+  pub spliced : Spliced (link_of q) (link_of q₁) p y
   spliced = record { at_p = at_p; at_y = at_y; rest = elsewhere }
 
   abbrev stage₁ : ℕ → ℕ
   stage₁ = updated stage y 0
 
-  ordered₁ : Ordered (link_of q₁) stage₁ (updated (λ x. 2 * rank x + 2) y (2 * rank p + 1))
-  ordered₁ = splice_ordered s.ordered p y spliced kp fresh
+  pub ordered_with : Ordered (link_of q₁) stage₁ (updated (λ x. 2 * rank x + 2) y (2 * rank p + 1))
+  ordered_with = splice_ordered s.ordered p y spliced kp fresh
 
   pub still_ahead : {z x : ℕ} → stage x < 3 → Ahead (link_of q) z x → Ahead (link_of q₁) z x
   still_ahead l a = splice_fwd s.ordered p y spliced kp fresh l a
@@ -87,14 +87,11 @@ module _ {size : ℕ} {q : Pool} {stage rank : ℕ → ℕ} (s : Shaped size q s
   placing a v o new mv none = record {
     stage' = stage₁;
     rank' = updated (λ x. 2 * rank x + 2) y (2 * rank p + 1);
-    shaped = record { ordered = ordered₁; books = rw free (books_fill (rw free at s.books)); keys_apart = keys_apart₁ o new; moved = mv; somewhere = λ x n l. still_somewhere x (s.somewhere x n l) };
+    shaped = record { ordered = ordered_with; books = rw free (books_fill (rw free at s.books)); keys_apart = keys_apart₁ o new; moved = mv; somewhere = λ x n l. still_somewhere x (s.somewhere x n l) };
     covered = refl;
     turned = λ aw. record {
       kept = others q.due m a v;
-      guards = λ x g.
-          let e = updated_elsewhere stage y x 0 (fresh.live_ne x g.live) in
-          let l = g.live in
-          record { live = omega arith; waits = λ w. g.waits (cc) };
+      guards = λ x g. guarded_set y 0 (omega arith) x g;
       back = λ x z l b. elim (splice_back s.ordered p y spliced kp fresh l b) [
         | inl e ↦ inr (cc (fresh.is_free), ahead_to (sym e) new_listed)
         | inr c ↦ inl c

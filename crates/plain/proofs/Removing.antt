@@ -4,15 +4,16 @@ use Rattle.std.proofs.Common.{◌≡◌, ℕ, ◌+◌, ◌*◌, ◌<◌, Bool, �
 use Rattle.std.proofs.lemmas.Bool.{cases_eq}
 use Rattle.scheme.specs.Meaning.{updated}
 use Rattle.scheme.proofs.Sets.{updated_at, updated_elsewhere}
-use Rattle.plain.specs.Pools.{Pool, Move, link_of, link_to, filled, unlinked, retired, with_move, head_or_0, old_of, before, reached}
+use Rattle.plain.specs.Pools.{Pool, Move, link_of, link_to, filled, unlinked, placed_behind, retired, with_move, head_or_0, old_of, before, reached}
 use Rattle.plain.specs.Boards.{Area, Record, with_record}
 use Rattle.plain.proofs.Links.{Ahead, next_at, ahead_ne, ahead_to, ahead_trans, ahead_stage, Ordered, Spliced, Skipped, splice_fwd, splice_back, splice_ordered, skip_fwd, skip_back, skip_lost, skip_ordered}
 use Rattle.plain.proofs.Lists.{In, in_cases}
 use Rattle.plain.proofs.Reached.{chain_ahead, ahead_chain, before_links}
 use Rattle.plain.proofs.Writes.{linked_there, filling}
-use Rattle.plain.proofs.Shape.{Shaped, Somewhere, Moved, Guarded, Carried, Owed, listed_stage, place_stage, listed_chain}
+use Rattle.plain.proofs.Shape.{Shaped, Somewhere, Moved, guarded_set, Carried, Owed, listed_stage, place_stage, listed_chain}
 use Rattle.plain.proofs.Books.{books_fill, books_retire}
-use Rattle.plain.proofs.Placing.{Turn}
+use Rattle.plain.proofs.Placing
+use Rattle.plain.proofs.Placing.{Turn, spliced, ordered_with}
 
 module _ {size : ℕ} {q : Pool} {stage rank : ℕ → ℕ} (s : Shaped size q stage rank) {x : ℕ} (xa : Ahead (link_of q) x 0) where
   -- the node before x
@@ -39,12 +40,6 @@ module _ {size : ℕ} {q : Pool} {stage rank : ℕ → ℕ} (s : Shaped size q s
 
   head_live : stage 0 < 3
   head_live = omega arith
-
-  due_kept : (aw : Bool) (z : ℕ) → Guarded stage aw z → Guarded (updated stage x 1) aw z
-  due_kept aw z g = elim (cases_eq z x) [
-    | inl e ↦ let w = updated_at stage x z 1 e in record { live = omega arith; waits = λ v. absurd (omega arith) }
-    | inr n ↦ let w = updated_elsewhere stage x z 1 n in record { live = omega arith; waits = λ v. g.waits (cc) }
-  ]
 
   -- ---- x alone goes
 
@@ -99,7 +94,7 @@ module _ {size : ℕ} {q : Pool} {stage rank : ℕ → ℕ} (s : Shaped size q s
       covered = refl;
       turned = λ aw. record {
         kept = λ z n l. record { key = refl; stamp = refl; fields = refl };
-        guards = due_kept aw;
+        guards = λ z g. guarded_set x 1 (omega arith) z g;
         back = λ u z l b. inl (was_ahead b);
         fwd = λ u z l b. elim (cases_eq z x) [
           | inl e ↦ rw e (lost u l (ahead_to e b))
@@ -120,9 +115,6 @@ module _ {size : ℕ} {q : Pool} {stage rank : ℕ → ℕ} (s : Shaped size q s
 
     open filling s free k (link_of q x) kp use {free as fresh, at_p, at_y, elsewhere, key_new, key_old, others}
 
-    p_ne : p ≢ y
-    p_ne = fresh.live_ne p (omega (arith, kp))
-
     x_ne : x ≢ y
     x_ne = fresh.live_ne x (omega (arith, kx))
 
@@ -131,30 +123,21 @@ module _ {size : ℕ} {q : Pool} {stage rank : ℕ → ℕ} (s : Shaped size q s
         omega (arith, s.ordered.falls p (let w = kp in omega arith) p_links_ne, ap rank (p_links ∙ e))
 
     -- the links with y put behind p, before x is skipped
-    lk : ℕ → ℕ
-    lk = updated (updated (link_of q) y x) p y
-
-    lk_y : lk y ≡ x
-    unfolding lk
-    lk_y = updated_elsewhere (updated (link_of q) y x) p y y (λ e. p_ne (sym e)) ∙ updated_at (link_of q) y y x refl
-
-    lk_p : (z : ℕ) → z ≡ p → lk z ≡ y
-    unfolding lk
-    lk_p z e = grind arith
-
-    lk_rest : (z : ℕ) → z ≢ p → z ≢ y → lk z ≡ link_of q z
-    unfolding lk
-    lk_rest z n d = grind arith
+    abbrev lk : ℕ → ℕ
+    lk = link_of (placed_behind k p q)
 
     put_in : Spliced (link_of q) lk p y
-    put_in = record { at_p = lk_p p refl; at_y = lk_y ∙ sym p_links; rest = lk_rest }
+    put_in = spliced s k free pa q.move
+
+    lk_y : lk y ≡ x
+    lk_y = put_in.at_y ∙ p_links
 
     then_out : Skipped lk (link_of q₂) y
     then_out = record {
-      at_p = cc (at_y, lk_y, lk_rest x x_ne_p x_ne);
+      at_p = cc (at_y, lk_y, put_in.rest x x_ne_p x_ne);
       rest = λ z n. elim (cases_eq z p) [
-        | inl e ↦ cc (at_p, lk_p z e)
-        | inr d ↦ elsewhere z d n ∙ sym (lk_rest z d n)
+        | inl e ↦ cc (at_p, put_in.at_p)
+        | inr d ↦ elsewhere z d n ∙ sym (put_in.rest z d n)
       ];
     }
 
@@ -168,7 +151,7 @@ module _ {size : ℕ} {q : Pool} {stage rank : ℕ → ℕ} (s : Shaped size q s
     stage₂ = updated stage₁ x 1
 
     middle : Ordered lk stage₁ rank₁
-    middle = splice_ordered s.ordered p y put_in kp fresh
+    middle = ordered_with s k free pa q.move
 
     ky : stage₁ y ≡ 0
     ky = grind arith
@@ -180,7 +163,7 @@ module _ {size : ℕ} {q : Pool} {stage rank : ℕ → ℕ} (s : Shaped size q s
     ordered₂ = rw lk_y at (skip_ordered middle y then_out ky lk_y_ne)
 
     into_middle : {z u : ℕ} → stage u < 3 → Ahead (link_of q) z u → Ahead lk z u
-    into_middle l a = splice_fwd s.ordered p y put_in kp fresh l a
+    into_middle l a = Placing.still_ahead s k free pa q.move l a
 
     out_of_middle : {z u : ℕ} → z ≢ x → Ahead lk z u → Ahead (link_of q₂) z u
     out_of_middle n a = skip_fwd middle y then_out ky lk_y_ne (λ e. n (e ∙ lk_y)) a
@@ -192,10 +175,7 @@ module _ {size : ℕ} {q : Pool} {stage rank : ℕ → ℕ} (s : Shaped size q s
     back l a = splice_back s.ordered p y put_in kp fresh l (back_to_middle a)
 
     new_listed : Ahead (link_of q₂) y 0
-    new_listed = out_of_middle (λ e. x_ne (sym e)) (elim pa [
-      | inl e ↦ next_at fresh.ne (lk_p 0 (sym e))
-      | inr a ↦ ahead_trans (into_middle head_live a) (next_at fresh.ne (lk_p p refl))
-    ])
+    new_listed = out_of_middle (λ e. x_ne (sym e)) (Placing.new_listed s k free pa q.move)
 
     not_x : {z : ℕ} → Ahead (link_of q₂) z 0 → z ≢ x
     not_x a e =
@@ -203,14 +183,6 @@ module _ {size : ℕ} {q : Pool} {stage rank : ℕ → ℕ} (s : Shaped size q s
         let n = ahead_stage ordered₂ (omega arith) a in
         let v = updated_at stage₁ x _ 1 e in
         omega arith
-
-    guards₂ : (aw : Bool) (z : ℕ) → Guarded stage aw z → Guarded stage₂ aw z
-    guards₂ aw z g =
-        let e = updated_elsewhere stage y z 0 (fresh.live_ne z g.live) in
-        elim (cases_eq z x) [
-          | inl i ↦ let w = updated_at stage₁ x z 1 i in record { live = omega arith; waits = λ v. absurd (omega arith) }
-          | inr n ↦ let w = updated_elsewhere stage₁ x z 1 n in record { live = omega arith; waits = λ v. g.waits (cc) }
-        ]
 
     lost : (u : ℕ) → stage u < 3 → q.key x ≡ k → Ahead (link_of q) x u → Carried q q₂ u x
     lost u l e a = elim (skip_lost middle y then_out ky lk_y_ne (ahead_to (sym lk_y) (into_middle l a))) [
@@ -262,7 +234,7 @@ module _ {size : ℕ} {q : Pool} {stage rank : ℕ → ℕ} (s : Shaped size q s
       covered = refl;
       turned = λ aw. record {
         kept = others (x ∷ q.due) q.move a v;
-        guards = guards₂ aw;
+        guards = λ z g. guarded_set x 1 (omega arith) z (guarded_set y 0 (omega arith) z g);
         back = λ u z l b. elim (back l b) [
           | inl e ↦ inr (cc (fresh.is_free), ahead_to (sym e) new_listed)
           | inr c ↦ inl c

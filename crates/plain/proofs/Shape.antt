@@ -3,6 +3,7 @@
 use Rattle.std.specs.Prelude.{◌==◌}
 use Rattle.std.proofs.Common.{◌≡◌, ℕ, ◌<◌, ◌≤◌, Bool, true, false, not, ◌≢◌, ◌⊎◌, List, inl, inr, arith}
 use Rattle.std.proofs.lemmas.Bool.Decides.{nat_tests}
+use Rattle.scheme.specs.Meaning.{updated}
 use Rattle.plain.specs.Pools.{Pool, Move, Need, link_of, reached, holder, old_of}
 use Rattle.plain.specs.Boards.{Area, record_at}
 use Rattle.plain.proofs.Links.{Ahead, ahead_ne, Ordered, ahead_stage}
@@ -95,6 +96,10 @@ module _ {size : ℕ} {q : Pool} {stage rank : ℕ → ℕ} (s : Shaped size q s
 pub record Guarded (stage : ℕ → ℕ) (aw : Bool) (x : ℕ) : Type 0 where
   pub live : stage x < 3
   pub waits : stage x ≡ 2 → aw ≡ true
+
+-- a node that is listed or due from now on is held back by no wait
+pub guarded_set : {stage : ℕ → ℕ} {aw : Bool} (y v : ℕ) → v < 2 → (x : ℕ) → Guarded stage aw x → Guarded (updated stage y v) aw x
+guarded_set y v l x g = record { live = grind arith; waits = λ w. grind arith }
 
 pub record Same (q q' : Pool) (a a' : Area) (x : ℕ) : Type 0 where
   pub key : q'.key x ≡ q.key x
