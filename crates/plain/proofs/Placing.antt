@@ -53,9 +53,9 @@ module _ {size : ℕ} {q : Pool} {stage rank : ℕ → ℕ} (s : Shaped size q s
     | inr a ↦ ahead_trans (still_ahead listed_live a) behind_p
   ]
 
-  -- a node listed now is the new one, or was listed
-  pub listed_before : {x : ℕ} → Ahead (link_of q₁) x 0 → (x ≡ y) ⊎ Ahead (link_of q) x 0
-  listed_before a = splice_back s.ordered p y spliced kp fresh listed_live a
+  -- a node ahead now is the new one, or was ahead
+  pub was_ahead : {z x : ℕ} → stage x < 3 → Ahead (link_of q₁) z x → (z ≡ y) ⊎ Ahead (link_of q) z x
+  was_ahead l a = splice_back s.ordered p y spliced kp fresh l a
 
   pub old_ne : {x : ℕ} → Ahead (link_of q) x 0 → x ≢ y
   old_ne a = fresh.live_ne _ (omega (arith, listed_stage s a))
@@ -67,8 +67,8 @@ module _ {size : ℕ} {q : Pool} {stage rank : ℕ → ℕ} (s : Shaped size q s
   keys_apart₁ : old_of q.move ≡ 0 → ((x : ℕ) → Ahead (link_of q) x 0 → x ≢ old_of m → q.key x ≢ k) → KeysApart
   unfolding KeysApart
   keys_apart₁ o new x z ax az nx nz e =
-      let bx = listed_before ax in
-      let bz = listed_before az in
+      let bx = was_ahead listed_live ax in
+      let bz = was_ahead listed_live az in
       grind (arith, new, key_new, key_old, old_ne, ahead_ne, s.keys_apart x z)
 
   still_somewhere : (x : ℕ) → Somewhere q x → Somewhere q₁ x
@@ -92,7 +92,7 @@ module _ {size : ℕ} {q : Pool} {stage rank : ℕ → ℕ} (s : Shaped size q s
     turned = λ aw. record {
       kept = others q.due m a v;
       guards = λ x g. guarded_set y 0 (omega arith) x g;
-      back = λ x z l b. elim (splice_back s.ordered p y spliced kp fresh l b) [
+      back = λ x z l b. elim (was_ahead l b) [
         | inl e ↦ inr (cc (fresh.is_free), ahead_to (sym e) new_listed)
         | inr c ↦ inl c
       ];

@@ -172,7 +172,7 @@ module _ {size : ℕ} {q : Pool} {stage rank : ℕ → ℕ} (s : Shaped size q s
     back_to_middle a = skip_back middle y then_out ky lk_y_ne a
 
     back : {z u : ℕ} → stage u < 3 → Ahead (link_of q₂) z u → (z ≡ y) ⊎ Ahead (link_of q) z u
-    back l a = splice_back s.ordered p y put_in kp fresh l (back_to_middle a)
+    back l a = Placing.was_ahead s k free pa q.move l (back_to_middle a)
 
     new_listed : Ahead (link_of q₂) y 0
     new_listed = out_of_middle (λ e. x_ne (sym e)) (Placing.new_listed s k free pa q.move)
