@@ -21,10 +21,7 @@ module _ {size : ℕ} {q : Pool} {stage rank : ℕ → ℕ} (s : Shaped size q s
   in_list x i = let a = chain_ahead (listed_chain s) i in (listed_stage s a, ahead_ne a)
 
   in_off : (x : ℕ) → In x off_list → (stage x ≢ 0) × (x ≤ size)
-  in_off x i = elim (in_append q.free i) [
-    | inl j ↦ grind arith
-    | inr j ↦ let c = in_append q.due j in grind arith
-  ]
+  in_off x i = let c = in_append q.free i in grind (arith, in_append {x = x} q.due)
 
   listed_apart : Apart on_list
   listed_apart = reached_apart (link_of q) s.ordered size 0 (omega arith)
@@ -45,7 +42,7 @@ module _ {size : ℕ} {q : Pool} {stage rank : ℕ → ℕ} (s : Shaped size q s
   listed_few = few size listed_apart list_in_range
 
   in_range : (x : ℕ) → In x (on_list ++ off_list) → (0 < x) × (x ≤ size)
-  in_range x i = elim (in_append on_list i) [ inl j ↦ list_in_range x j | inr j ↦ let k = in_off x j in grind arith ]
+  in_range x i = let c = in_append on_list i in grind (arith, list_in_range x, in_off x)
 
   pub placed : (x : ℕ) → Somewhere q x → In x (on_list ++ off_list)
   placed x (Somewhere.on_list a) = in_left off_list (ahead_chain (listed_chain s) a)

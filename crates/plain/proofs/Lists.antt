@@ -43,7 +43,7 @@ pub apart_append : {xs ys : List ℕ} → Apart xs → Apart ys → ((x : ℕ) �
 apart_append nothing b d = b
 apart_append (one_more {x = x} {xs = xs} n a) b d =
     one_more
-    (λ m. elim (in_append xs m) [ inl i ↦ n i | inr i ↦ d x (first refl) i ])
+    (λ m. let c = in_append xs m in grind (arith, d x (first refl)))
     (apart_append a b (λ z i j. d z (later i) j))
 
 -- ---- the numbers from i on

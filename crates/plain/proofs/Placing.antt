@@ -92,10 +92,7 @@ module _ {size : ℕ} {q : Pool} {stage rank : ℕ → ℕ} (s : Shaped size q s
     turned = λ aw. record {
       kept = others q.due m a v;
       guards = λ x g. guarded_set y 0 (omega arith) x g;
-      back = λ x z l b. elim (was_ahead l b) [
-        | inl e ↦ inr (cc (fresh.is_free), ahead_to (sym e) new_listed)
-        | inr c ↦ inl c
-      ];
+      back = λ x z l b. let c = was_ahead l b in grind (arith, fresh.is_free, new_listed);
       fwd = λ x z l b. Carried.stays (still_ahead l b);
       owed = λ c w. grind arith;
     };

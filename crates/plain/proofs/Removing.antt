@@ -135,10 +135,7 @@ module _ {size : ℕ} {q : Pool} {stage rank : ℕ → ℕ} (s : Shaped size q s
     then_out : Skipped lk (link_of q₂) y
     then_out = record {
       at_p = cc (at_y, lk_y, put_in.rest x x_ne_p x_ne);
-      rest = λ z n. elim (cases_eq z p) [
-        | inl e ↦ cc (at_p, put_in.at_p)
-        | inr d ↦ elsewhere z d n ∙ sym (put_in.rest z d n)
-      ];
+      rest = λ z n. grind (arith, at_p, put_in.at_p, elsewhere z, put_in.rest z);
     }
 
     abbrev stage₁ : ℕ → ℕ

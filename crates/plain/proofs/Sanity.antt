@@ -28,10 +28,7 @@ not_at_all x (y ∷ ys) n = cc (ne_eqb x y (λ e. n (In.first e)), not_at_all x 
 
 once : (x : ℕ) {xs : List ℕ} → Apart xs → In x xs → times x xs ≡ 1
 once x Apart.nothing i = elim i [ ]
-once x (Apart.one_more {x = y} {xs = ys} d a) i = elim (cases_eq x y) [
-  | inl e ↦ rw (eq-eqb x y e) (ap suc (not_at_all x ys (λ i. d (rw e at i))))
-  | inr n ↦ cc (ne_eqb x y n, once x a (elim (in_cases i) [ inl e ↦ absurd (n e) | inr j ↦ j ]))
-]
+once x (Apart.one_more {x = y} {xs = ys} d a) i = let c = in_cases i in grind (arith, not_at_all y ys, once x a)
 
 pub boards_stay_whole : BoardsStayWhole
 boards_stay_whole making h b area run =

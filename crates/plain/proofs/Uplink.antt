@@ -124,9 +124,7 @@ module _ {b : Board} {stage rank : ℕ → ℕ} (f : Fine b stage rank) (a : Are
         (placing s k free there the_move a (record_at a old)
         (ap old_of still)
         (λ z az d i. d (grind (arith, s.keys_apart z old az n.0 (no_old still az) (no_old still n.0))))
-        (cond_both (is_earlier b k h) (Move.earlier old new Need.lacking) (Move.later old new) (Moved q₁)
-        (λ t. two free there n.0 n.1)
-        (λ t. (two free there n.0 n.1, behind free there n.0 n.1 after_listed other t)))
+        (let t = two free there n.0 n.1 in grind (arith, behind free there n.0 n.1 after_listed other))
         (λ aw c w. grind arith))
 
   -- ---- the finish of a move
