@@ -99,19 +99,11 @@ module _ {lk lk' stage rank : ℕ → ℕ} (o : Ordered lk stage rank) (p y : �
       | inr q ↦ inr (next_at (λ w. n (e ∙ w)) (grind arith))
     ]),
   )
-  splice_back_both {z} {x} (more n a) = let b = splice_back_both a in (
-    (λ q.
-        let v : lk p ≡ lk' x = cc in
-        let l : stage (lk' x) < 3 = subst (λ (w : ℕ). stage w < 3) v (omega arith) in
-        elim (b.1 l) [ inl e ↦ inl e | inr c ↦ inr (more_at n v c) ]),
-    (λ l. elim (cases_eq x p) [
-      | inl q ↦ elim (b.0 (cc)) [ inl e ↦ inl e | inr c ↦ inr (ahead_from (sym q) c) ]
-      | inr q ↦
-          let v : lk x ≡ lk' x = sym (s.rest x q (g.live_ne x l)) in
-          let l' : stage (lk' x) < 3 = subst (λ (w : ℕ). stage w < 3) v (omega arith) in
-          elim (b.1 l') [ inl e ↦ inl e | inr c ↦ inr (more_at n v c) ]
-    ]),
-  )
+  splice_back_both {z} {x} (more n a) =
+      let b = splice_back_both a in
+      let from_p : lk p ≡ lk' x → Ahead lk z (lk' x) → Ahead lk z p = more_at n in
+      let from_x : lk x ≡ lk' x → Ahead lk z (lk' x) → Ahead lk z x = more_at n in
+      (λ q. grind (arith, from_p), λ l. grind (arith, from_x, g.live_ne x))
 
   pub splice_back : {z x : ℕ} → stage x < 3 → Ahead lk' z x → (z ≡ y) ⊎ Ahead lk z x
   splice_back l a = (splice_back_both a).1 l
@@ -148,13 +140,9 @@ module _ {lk lk' stage rank : ℕ → ℕ} (o : Ordered lk stage rank) (p : ℕ)
         (λ q. next_at z_ne (cc)),
       )
   skip_fwd_both {z} {u} nz (more n a) =
-      let b = skip_fwd_both nz a in (
-        elim (cases_eq u p) [
-          | inl q ↦ ahead_from (sym q) (b.1 (ap lk q))
-          | inr q ↦ more_at n (s.rest u q) b.0
-        ],
-        (λ q. more_at n (cc) b.0),
-      )
+      let b = skip_fwd_both nz a in
+      let from_u : lk' u ≡ lk u → Ahead lk' z u = λ e. more_at n e b.0 in
+      (grind (arith, from_u), λ q. more_at n (cc) b.0)
 
   pub skip_fwd : {z u : ℕ} → z ≢ lk p → Ahead lk z u → Ahead lk' z u
   skip_fwd nz a = (skip_fwd_both nz a).0
@@ -167,16 +155,10 @@ module _ {lk lk' stage rank : ℕ → ℕ} (o : Ordered lk stage rank) (p : ℕ)
   ]
   skip_lost {u} (more n a) =
       let b = skip_lost a in
-      elim (cases_eq u p) [
-        | inl q ↦ inl q
-        | inr q ↦ elim b [
-          | inl e ↦ inr (inl (next n e))
-          | inr c ↦ elim c [
-            | inl d ↦ inr (inl (more n d))
-            | inr d ↦ inr (inr (more_at n (s.rest u q) d))
-          ]
-        ]
-      ]
+      let near : lk u ≡ p → Ahead lk p u = next n in
+      let far : Ahead lk p (lk u) → Ahead lk p u = more n in
+      let still : lk' u ≡ lk u → Ahead lk' (lk p) (lk u) → Ahead lk' (lk p) u = more_at n in
+      grind (arith, near, far, still)
 
   -- the stages with the skipped node due
   pub skip_ordered : Ordered lk' (updated stage (lk p) 1) rank
