@@ -86,19 +86,14 @@ module _ {lk lk' stage rank : ℕ → ℕ} (o : Ordered lk stage rank) (p y : �
   ]
   splice_fwd {z} {x} l (more n a) =
       let b = splice_fwd (omega arith) a in
-      elim (cases_eq x p) [
-        | inl q ↦ more_at g.ne (cc) (more_at n (cc) b)
-        | inr q ↦ more_at n (s.rest x q (g.live_ne x l)) b
-      ]
+      let by_y : lk' x ≡ y → lk' y ≡ lk x → Ahead lk' z x = λ v w. more_at g.ne v (more_at n w b) in
+      let from_x : lk' x ≡ lk x → Ahead lk' z x = λ v. more_at n v b in
+      grind (arith, by_y, from_x, g.live_ne x)
 
   splice_back_both : {z x : ℕ} → Ahead lk' z x → (x ≡ y → (z ≡ y) ⊎ Ahead lk z p) × (stage x < 3 → (z ≡ y) ⊎ Ahead lk z x)
-  splice_back_both {z} {x} (next n e) = (
-    (λ q. inr (next_at (λ w. n (e ∙ w)) (cc))),
-    (λ l. elim (cases_eq x p) [
-      | inl q ↦ inl (cc)
-      | inr q ↦ inr (next_at (λ w. n (e ∙ w)) (grind arith))
-    ]),
-  )
+  splice_back_both {z} {x} (next n e) =
+      let from : (u : ℕ) → lk u ≡ z → Ahead lk z u = λ u. next_at (λ w. n (e ∙ w)) in
+      (λ q. grind (arith, from p), λ l. grind (arith, from x, g.live_ne x))
   splice_back_both {z} {x} (more n a) =
       let b = splice_back_both a in
       let from_p : lk p ≡ lk' x → Ahead lk z (lk' x) → Ahead lk z p = more_at n in
@@ -132,13 +127,8 @@ module _ {lk lk' stage rank : ℕ → ℕ} (o : Ordered lk stage rank) (p : ℕ)
 
   skip_fwd_both : {z u : ℕ} → z ≢ lk p → Ahead lk z u → Ahead lk' z u × (u ≡ lk p → Ahead lk' z p)
   skip_fwd_both {z} {u} nz (next n e) =
-      let z_ne : z ≢ 0 = λ w. n (e ∙ w) in (
-        elim (cases_eq u p) [
-          | inl q ↦ absurd (nz (cc))
-          | inr q ↦ next_at z_ne (grind arith)
-        ],
-        (λ q. next_at z_ne (cc)),
-      )
+      let from : (x : ℕ) → lk' x ≡ z → Ahead lk' z x = λ x. next_at (λ w. n (e ∙ w)) in
+      (grind (arith, from u), λ q. from p (cc))
   skip_fwd_both {z} {u} nz (more n a) =
       let b = skip_fwd_both nz a in
       let from_u : lk' u ≡ lk u → Ahead lk' z u = λ e. more_at n e b.0 in
@@ -149,10 +139,9 @@ module _ {lk lk' stage rank : ℕ → ℕ} (o : Ordered lk stage rank) (p : ℕ)
 
   -- where the skipped node was ahead, p is now, or the skipped one still
   pub skip_lost : {u : ℕ} → Ahead lk (lk p) u → (u ≡ p) ⊎ (Ahead lk p u ⊎ Ahead lk' (lk p) u)
-  skip_lost {u} (next n e) = elim (cases_eq u p) [
-    | inl q ↦ inl q
-    | inr q ↦ inr (inr (next_at ne (grind arith)))
-  ]
+  skip_lost {u} (next n e) =
+      let still : lk' u ≡ lk p → Ahead lk' (lk p) u = next_at ne in
+      grind (arith, still)
   skip_lost {u} (more n a) =
       let b = skip_lost a in
       let near : lk u ≡ p → Ahead lk p u = next n in
