@@ -51,14 +51,8 @@ module _ {b : Board} {stage rank : ℕ → ℕ} (f : Fine b stage rank) where
       Way b stage r (m ∷ w) p v → Way b stage r (m ∷ w) z (z ∷ v)
   way_goes r m w p z v e n g on y = record {
     apart = Apart.one_more (λ i. y.clear z i (next_at n e)) y.apart;
-    live = λ x i. elim (in_cases i) [
-      | inl q ↦ ((λ o. n (cc)), rw q gz)
-      | inr j ↦ y.live x j
-    ];
-    clear = λ x i a. elim (in_cases i) [
-      | inl q ↦ not_ahead_of_itself f.shaped.ordered gz.live (ahead_to q a)
-      | inr j ↦ y.clear x j (more_at n e a)
-    ];
+    live = λ x i. let c = in_cases i in grind (arith, gz, y.live x);
+    clear = λ x i a. let c = in_cases i in grind (arith, not_ahead_of_itself f.shaped.ordered gz.live, y.clear x, more_at n e a);
     honest = λ x a. y.honest x (more_at n e a);
     complete = λ k ev. elim (y.complete k ev) [
       | inl s ↦ inl s
@@ -67,13 +61,10 @@ module _ {b : Board} {stage rank : ℕ → ℕ} (f : Fine b stage rank) where
         | inr a ↦ inr (c.0, a, c.2)
       ]
     ];
-    copies = λ c o. elim (y.copies c o) [
-      | inl s ↦ inl s
-      | inr a ↦ elim (split c a) [
-        | inl q ↦ inl (Any.here (rw (ap (key_of b) q) at on))
-        | inr a' ↦ inr a'
-      ]
-    ];
+    copies = λ c o.
+        let t = y.copies c o in
+        let here : Any (StepsOnKey r (key_of b z)) (m ∷ w) = Any.here on in
+        grind (arith, split c, here);
   }
     where
       gz : Guarded stage (b.who.awaited r) z
@@ -96,10 +87,7 @@ module _ {b : Board} {a : Area} {stage rank : ℕ → ℕ} {m : Moment} (f : Fin
   way_stays w p v g y = record {
     apart = y.apart;
     live = λ x j. grind arith;
-    clear = λ x j c. elim (u.back p x g.live c) [
-      | inl d ↦ y.clear x j d
-      | inr d ↦ grind arith
-    ];
+    clear = λ x j c. let d = u.back p x g.live c in grind (arith, y.clear x, y.live x);
     honest = λ z c. elim (u.back p z g.live c) [
       | inl d ↦ Any.there (rw (ahead_key z d) (y.honest z d))
       | inr d ↦ Any.here (is_there n.fine z d.1)
