@@ -1,6 +1,6 @@
 -- Every node is in exactly one of four places: listed, free, due or covered.
 -- So the lengths of the four add up to the size of the board, and what is not listed is free, due or covered. Assumes nothing.
-use Rattle.std.proofs.Common.{◌≡◌, ℕ, suc, ◌+◌, ◌<◌, ◌≤◌, not, ◌≢◌, List, ◌++◌, length, inl, inr, arith, length-append}
+use Rattle.std.proofs.Common.{◌≡◌, ℕ, suc, ◌+◌, ◌<◌, ◌≤◌, not, ◌≢◌, List, ◌++◌, length, arith, length-append}
 use Rattle.scheme.specs.Counts.{count_below}
 use Rattle.plain.specs.Pools.{Pool, link_of, reached}
 use Rattle.plain.specs.Waits.{has}

@@ -1,13 +1,13 @@
 -- What holds of every board (Fine), and what one call gives (Follows).
 -- Each call of a reader that is no step, and tend, keep it. Assumes nothing.
 use Rattle.std.specs.Prelude.{if◌then◌else◌}
-use Rattle.std.proofs.Common.{◌≡◌, ℕ, ◌<◌, ◌≤◌, Bool, true, false, not, ◌||◌, ◌≢◌, [], length, sym, refl, ap, inl, inr, arith}
-use Rattle.std.proofs.lemmas.Bool.{cases_eq, cond_both}
+use Rattle.std.proofs.Common.{◌≡◌, ℕ, ◌<◌, ◌≤◌, Bool, true, false, not, ◌||◌, ◌≢◌, [], length, sym, refl, ap, arith}
+use Rattle.std.proofs.lemmas.Bool.{cond_both}
 use Rattle.scheme.specs.declared.interface.Poll.{Poll}
 use Rattle.scheme.specs.declared.interface.Poll.TheVariants.{NoWait, NotYet, Over}
 use Rattle.scheme.specs.Meaning.{Meaning, Sound, anybody, entered, left, begun, closed, on_enter, on_leave, on_begin}
 use Rattle.scheme.specs.Polls.{on_poll}
-use Rattle.scheme.proofs.Sets.{updated_at, updated_elsewhere}
+use Rattle.scheme.proofs.Sets.{updated_elsewhere}
 use Rattle.record.specs.Making.{Making}
 use Rattle.plain.specs.Pools.{Pool, is_empty, needs_begin, covering, freeing}
 use Rattle.plain.specs.Boards.{Board, Area, Slot, at_rest, with_pool, with_slot, with_who}
@@ -79,10 +79,7 @@ module _ {b : Board} {stage rank : ℕ → ℕ} (f : Fine b stage rank) (a : Are
       shaped = f.shaped;
       sound = f.sound;
       few = f.few;
-      rests = λ u i. elim (cases_eq u r) [
-        | inl e ↦ rw (updated_at b.slots r u s e) (rw e g)
-        | inr n ↦ rw (updated_elsewhere b.slots r u s n) (f.rests u i)
-      ];
+      rests = λ u i. grind (arith, g, f.rests u);
       idle = f.idle;
     };
     sized = refl;
@@ -107,12 +104,7 @@ module _ {b : Board} {stage rank : ℕ → ℕ} (f : Fine b stage rank) (a : Are
       shaped = f.shaped;
       sound = sound;
       few = f.few;
-      rests = λ u i. elim (cases_eq u r) [
-        | inl e ↦ rw (updated_at b.slots r u at_rest e) (at_head (w.awaited u))
-        | inr n ↦
-            let o = same u n in
-            rw (updated_elsewhere b.slots r u at_rest n) (rw o.1 (f.rests u (cc)))
-      ];
+      rests = λ u i. grind (arith, at_head (w.awaited u), same u, f.rests u);
       idle = λ e. f.idle (cc);
     };
     sized = refl;

@@ -1,8 +1,7 @@
 -- A node is put on the list, by a put or a move:
 -- the pool is sound again, and readers can tell no more than Turned says. Assumes nothing.
-use Rattle.std.proofs.Common.{◌≡◌, ℕ, ◌+◌, ◌*◌, ◌<◌, Bool, ◌≢◌, ◌⊎◌, List, ◌∷◌, sym, refl, ◌∙◌, inl, inr, arith}
+use Rattle.std.proofs.Common.{◌≡◌, ℕ, ◌+◌, ◌*◌, ◌<◌, Bool, ◌≢◌, ◌⊎◌, List, ◌∷◌, sym, refl, inl, inr, arith}
 use Rattle.scheme.specs.Meaning.{updated}
-use Rattle.scheme.proofs.Sets.{updated_elsewhere}
 use Rattle.plain.specs.Pools.{Pool, Move, link_of, placed_behind, with_move, old_of}
 use Rattle.plain.specs.Boards.{Area, Record, with_record}
 use Rattle.plain.proofs.Links.{Ahead, next_at, ahead_ne, ahead_from, ahead_to, ahead_trans, Ordered, Spliced, splice_fwd, splice_back, splice_ordered}

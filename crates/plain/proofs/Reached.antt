@@ -1,7 +1,7 @@
 -- The chain of nodes ahead of a place, as a list: the node before another, who precedes whom, the first with a key.
 -- The board's own chain, which is followed no further than its size, is the whole chain. Assumes nothing.
-use Rattle.std.specs.Prelude.{◌==◌, if◌then◌else◌}
-use Rattle.std.proofs.Common.{◌≡◌, ℕ, zero, suc, ◌<◌, ◌≤◌, true, false, ◌≢◌, ◌⊎◌, List, [], ◌∷◌, length, sym, refl, ap, ◌∙◌, inl, inr, arith}
+use Rattle.std.specs.Prelude.{◌==◌}
+use Rattle.std.proofs.Common.{◌≡◌, ℕ, zero, suc, ◌<◌, ◌≤◌, false, ◌≢◌, ◌⊎◌, List, [], ◌∷◌, length, sym, refl, ap, inl, inr, arith}
 use Rattle.std.proofs.lemmas.Bool.{eqb-true, eqb-false, cond_both}
 use Rattle.plain.specs.Pools.{reached, holder, before, precedes}
 use Rattle.plain.proofs.Links.{Ahead, ahead_ne, next_at, more_at, ahead_from, Ordered, not_ahead_of_itself, ahead_stage}

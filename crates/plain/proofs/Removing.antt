@@ -4,9 +4,9 @@ use Rattle.std.proofs.Common.{◌≡◌, ℕ, ◌+◌, ◌*◌, ◌<◌, Bool, �
 use Rattle.std.proofs.lemmas.Bool.{cases_eq}
 use Rattle.scheme.specs.Meaning.{updated}
 use Rattle.scheme.proofs.Sets.{updated_at, updated_elsewhere}
-use Rattle.plain.specs.Pools.{Pool, Move, link_of, link_to, filled, unlinked, placed_behind, retired, with_move, head_or_0, old_of, before, reached}
+use Rattle.plain.specs.Pools.{Pool, Move, link_of, unlinked, placed_behind, swapped, with_move, old_of, before, reached}
 use Rattle.plain.specs.Boards.{Area, Record, with_record}
-use Rattle.plain.proofs.Links.{Ahead, next_at, ahead_ne, ahead_to, ahead_trans, ahead_stage, Ordered, Spliced, Skipped, splice_fwd, splice_back, splice_ordered, skip_fwd, skip_back, skip_lost, skip_ordered}
+use Rattle.plain.proofs.Links.{Ahead, ahead_ne, ahead_to, ahead_stage, Ordered, Spliced, Skipped, skip_fwd, skip_back, skip_lost, skip_ordered}
 use Rattle.plain.proofs.Lists.{In, in_cases}
 use Rattle.plain.proofs.Reached.{chain_ahead, ahead_chain, before_links}
 use Rattle.plain.proofs.Writes.{linked_there, filling}
@@ -107,11 +107,8 @@ module _ {size : ℕ} {q : Pool} {stage rank : ℕ → ℕ} (s : Shaped size q s
   -- ---- y takes the place of x
 
   module _ (k : ℕ) {y : ℕ} {rest : List ℕ} (free : q.free ≡ y ∷ rest) where
-    abbrev mid : Pool
-    mid = link_to p (head_or_0 q.free) (filled k (link_of q x) q)
-
     abbrev q₂ : Pool
-    q₂ = retired x mid
+    q₂ = swapped k p x q
 
     open filling s free k (link_of q x) kp use {free as fresh, at_p, at_y, elsewhere, key_new, key_old, others}
 

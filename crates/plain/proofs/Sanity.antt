@@ -1,6 +1,6 @@
 -- The refusals of every call are in ascending order; after every run the list is whole, and each node is in one place. Assumes nothing.
-use Rattle.std.proofs.Common.{◌≡◌, ℕ, suc, true, List, [], ◌∷◌, refl, ap, inl, inr, arith}
-use Rattle.std.proofs.lemmas.Bool.{eq-eqb, ne_eqb, cases_eq}
+use Rattle.std.proofs.Common.{◌≡◌, ℕ, suc, true, List, [], ◌∷◌, refl, arith}
+use Rattle.std.proofs.lemmas.Bool.{ne_eqb}
 use Rattle.record.specs.Making.{Making}
 use Rattle.plain.specs.Pools.{link_of}
 use Rattle.plain.specs.Boards.{Board, Area}

@@ -97,7 +97,7 @@ pub record Guarded (stage : ℕ → ℕ) (aw : Bool) (x : ℕ) : Type 0 where
   pub live : stage x < 3
   pub waits : stage x ≡ 2 → aw ≡ true
 
--- a node that is listed or due from now on is held back by no wait
+-- what is guarded stays so when y becomes listed or due
 pub guarded_set : {stage : ℕ → ℕ} {aw : Bool} (y v : ℕ) → v < 2 → (x : ℕ) → Guarded stage aw x → Guarded (updated stage y v) aw x
 guarded_set y v l x g = record { live = grind arith; waits = λ w. grind arith }
 

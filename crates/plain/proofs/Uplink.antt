@@ -1,7 +1,7 @@
 -- Each accepted put, swap, cut, move, finish and step keeps what holds of every board.
 -- So does every call, accepted or refused (follows). Assumes nothing.
 use Rattle.std.specs.Prelude.{◌==◌, if◌then◌else◌}
-use Rattle.std.proofs.Common.{◌≡◌, ℕ, ◌<◌, Bool, true, false, not, ◌&&◌, ◌≢◌, ◌⊎◌, ◌∷◌, ℤ, sym, refl, ap, ◌∙◌, inl, inr, arith}
+use Rattle.std.proofs.Common.{◌≡◌, ℕ, ◌<◌, Bool, true, false, not, ◌&&◌, ◌≢◌, ◌⊎◌, ◌∷◌, ℤ, sym, refl, ap, inl, inr, arith}
 use Rattle.std.proofs.lemmas.Bool.{cases_eq, ne_eqb, eqb-false, cond_both, or_parts}
 use Rattle.record.specs.Making.{Making}
 use Rattle.plain.specs.Pools.{Pool, Move, Need, link_of, precedes, old_of, under_way, lacks_wait, with_move, placed_behind, unlinked, before, head_or_0, tail}

@@ -1,13 +1,13 @@
 -- A walk at a place: what it stepped on, and that each key it owes is stepped on or still ahead.
 -- This holds at the start of a walk, at each step of it, and through every other call. Assumes nothing.
-use Rattle.std.proofs.Common.{◌≡◌, ℕ, ◌<◌, Bool, true, ◌≢◌, ◌⊎◌, List, [], ◌∷◌, refl, ap, ◌∙◌, subst, inl, inr, arith}
+use Rattle.std.proofs.Common.{◌≡◌, ℕ, ◌<◌, Bool, true, ◌≢◌, ◌⊎◌, List, [], ◌∷◌, refl, ◌∙◌, subst, inl, inr, arith}
 use Rattle.scheme.specs.Histories.{Any}
 use Rattle.plain.specs.Pools.{link_of}
 use Rattle.plain.specs.Boards.{Board, Area, is_listed}
 use Rattle.plain.specs.History.{Moment, History, Every}
 use Rattle.plain.specs.Sightings.{Leaves}
 use Rattle.plain.specs.Walks.{StepsOnKey, Listed}
-use Rattle.plain.proofs.Links.{Ahead, ahead_ne, ahead_to, ahead_stage, not_ahead_of_itself, more_at, next_at}
+use Rattle.plain.proofs.Links.{Ahead, ahead_ne, ahead_stage, not_ahead_of_itself, more_at, next_at}
 use Rattle.plain.proofs.Lists.{In, in_cases, Apart}
 use Rattle.plain.proofs.Shape.{Guarded, Carried, Turned, Owed, owed_two, node_there, there, listed_stage}
 use Rattle.plain.proofs.Follows.{Fine, Follows}
