@@ -11,7 +11,7 @@ pub enum Kind {
 }
 
 impl Kind {
-    /// The kind as a schedule names it.
+    /// The kind as a schedule names it. It stays beside `Display`, which prints it.
     pub fn word(self) -> &'static str
         ensures { result.now ≡ kind_word self }
     {

@@ -40,6 +40,7 @@ impl fmt::Display for Poll {
 }
 
 /// A scheme tells the one task that changes the list when the readers have gone.
+// The clause `refused` stands at each call and not in a type, since it speaks of two states.
 pub trait Scheme: Sized {
     // The readers inside, whether a wait is open, and the readers that it awaits.
     ghost meaning: { Self → Meaning };
