@@ -6,7 +6,7 @@ use std::test::Fail;
 // Four numbers, and the field that is at fault, or `None` where a record is made.
 type Edge = ([i32; MOST_FIELDS], Option<u8>);
 
-const WAYS: [Edge; 22] = [
+const WAYS: &[Edge] = &[
     ([0, 0, 0, 0], None),
     ([900_000_000, 0, 0, 0], None),
     ([900_000_001, 0, 0, 0], Some(1)),
@@ -32,7 +32,7 @@ const WAYS: [Edge; 22] = [
     ([-2_147_483_648, 0, 0, 0], Some(1)),
 ];
 
-const PARS: [Edge; 12] = [
+const PARS: &[Edge] = &[
     ([5, 5, 5, 0], None),
     ([6, 0, 5, 0], Some(1)),
     ([-1, 0, 5, 0], Some(1)),
@@ -58,21 +58,21 @@ fn check_edges<R: Record>(rt: &impl Abort, edges: &[Edge]) {
 
 #[test]
 fn waypoints(rt: HostRuntime) {
-    check_edges::<Way>(&rt, &WAYS);
+    check_edges::<Way>(&rt, WAYS);
 }
 
 #[test]
 fn parameters(rt: HostRuntime) {
-    check_edges::<Par>(&rt, &PARS);
+    check_edges::<Par>(&rt, PARS);
 }
 
 // A record has the numbers that it was made of, each in its place, and no more.
 fn check_fields<R: Record>(rt: &impl Abort, numbers: [i32; MOST_FIELDS]) -> Result<(), Fail> {
     let made = R::make(numbers)?;
-    let own = &numbers[..R::field_count()];
-    // By its number, since the place of each field is what is tested.
-    for i in 0..=4 {
-        assert_eq!(rt; made.field(i), own.get(i).copied());
+    let wanted = numbers.iter().copied().take(R::field_count()).map(Some);
+    let found = (0..=MOST_FIELDS).map(|place| made.field(place));
+    for (found, wanted) in found.zip(wanted.chain([None; MOST_FIELDS])) {
+        assert_eq!(rt; found, wanted);
     }
     Ok(())
 }

@@ -2,6 +2,7 @@
 use scheme::{Answer, Bits, Call, Pair, Phase, Poll, Scheme, run};
 use std::process::Abort;
 
+// The type of an array in a constant names its length.
 const CALLS: usize = 26;
 
 const SCRIPT: [(Call, Answer); CALLS] = [

@@ -2,6 +2,7 @@
 use scheme::{Bits, Call, Pair, Phase, Scheme, run};
 use std::io;
 
+// The type of an array in a constant names its length.
 const CALLS: usize = 21;
 
 // Readers 2 and 9 are inside when the wait begins; 5 and 12 enter while it is open.

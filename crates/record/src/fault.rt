@@ -5,7 +5,7 @@ ghost use Rattle.record.specs.Faults.{fault_text};
 use std::error::Error;
 use std::fmt;
 
-/// The first field that is outside its limits, counted from 1.
+/// The first field that is outside its limits, counted from 1. A number and no enum: each kind has fields of its own.
 #[derive(Clone, Copy, PartialEq, Eq, Debug)]
 pub struct Fault {
     pub field: u8,

@@ -51,7 +51,7 @@ pub trait Record: Copy {
         Self::COUNT
     }
 
-    /// The field at place i, counted from 0.
+    /// The field at place i, counted from 0. Each kind lists its fields itself, since an array of `COUNT` would have a computed length, which Rattle has not.
     fn field(&self, i: usize) -> Option<i32>
         ensures { result ≡ slice_get (fields self.now) i };
 

@@ -30,20 +30,16 @@ impl Scheme for Bits {
 
     fn enter(&mut self, reader: u32) -> Result<(), Refused> {
         let reader = Reader::try_from(reader)?;
-        if !self.inside.insert(reader) {
-            return Err(Refused);
-        }
-        Ok(())
+        self.inside.insert(reader)
     }
 
     #[tactic(auto, using(crate::specs::SoundSets::none_high))]
     fn leave(&mut self, reader: u32) -> Result<(), Refused> {
         let reader = Reader::try_from(reader)?;
-        if !self.inside.remove(reader) {
-            return Err(Refused);
-        }
+        self.inside.remove(reader)?;
         if let Some(awaited) = &mut self.wait {
-            awaited.remove(reader);
+            // It is not awaited if it entered after the wait began.
+            let _ = awaited.remove(reader);
         }
         Ok(())
     }

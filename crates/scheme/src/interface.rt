@@ -10,7 +10,7 @@ use std::fmt;
 /// Readers are numbered from 0 to READERS - 1.
 pub const READERS: u32 = 16;
 
-/// What a poll says: no wait is open, somebody is still awaited, or the wait is over and now closed.
+/// What a poll says: no wait is open, somebody is still awaited, or the wait is over and now closed. Three answers, and none is an error, so no `Result`.
 #[derive(Clone, Copy, PartialEq, Eq, Debug)]
 pub enum Poll {
     NoWait,
@@ -40,7 +40,7 @@ impl fmt::Display for Poll {
 }
 
 /// A scheme tells the one task that changes the list when the readers have gone.
-// The clause `refused` stands at each call and not in a type, since it speaks of two states.
+// The clause `refused` stands at each call: inside `Follows`, whoever reads a contract would not see that nothing changes.
 pub trait Scheme: Sized {
     // The readers inside, whether a wait is open, and the readers that it awaits.
     ghost meaning: { Self → Meaning };

@@ -35,19 +35,13 @@ impl Scheme for Phase {
 
     fn enter(&mut self, reader: u32) -> Result<(), Refused> {
         let reader = Reader::try_from(reader)?;
-        if !self.visits.enter(reader, self.phase) {
-            return Err(Refused);
-        }
-        Ok(())
+        self.visits.enter(reader, self.phase)
     }
 
     #[tactic(auto, using(crate::specs::SoundVisits::nobody_past))]
     fn leave(&mut self, reader: u32) -> Result<(), Refused> {
         let reader = Reader::try_from(reader)?;
-        if !self.visits.leave(reader) {
-            return Err(Refused);
-        }
-        Ok(())
+        self.visits.leave(reader)
     }
 
     fn begin(&mut self) -> Result<(), Refused> {

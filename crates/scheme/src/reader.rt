@@ -11,6 +11,17 @@ pub struct Reader {
     ghost known: { number < readers },
 }
 
+// The place of what is kept for a reader, in a table of all.
+impl From<Reader> for usize {
+    ghost use Rattle.std.specs.Prelude.{◌≡◌};
+
+    ghost from_gives = { λ reader place. place ≡ reader.number };
+
+    fn from(reader: Reader) -> usize {
+        reader.number as usize
+    }
+}
+
 impl TryFrom<u32> for Reader {
     ghost use Rattle.scheme.specs.Readers.{Numbered};
 

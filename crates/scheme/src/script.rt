@@ -31,7 +31,7 @@ impl fmt::Display for Call {
     }
 }
 
-/// What came of it: enter, leave and begin are accepted or refused, and a poll says what it says.
+/// What came of it: enter, leave and begin are accepted or refused, and a poll says what it says. A `Result` inside would say the first two by one layer more.
 #[derive(Clone, Copy, PartialEq, Eq, Debug)]
 pub enum Answer {
     Accepted,

@@ -1,5 +1,5 @@
 // The visits of all readers, and for each phase the count of those under it.
-ghost use Rattle.std.specs.Prelude.{◌≡◌, false, is_some, length, not, slice_index, true};
+ghost use Rattle.std.specs.Prelude.{◌≡◌, false, is_some, length, not, slice_index, true, is_ok, OnErr, OnOk};
 ghost use Rattle.scheme.specs.declared.phase_number.PhaseNumber.{PhaseNumber};
 ghost use Rattle.scheme.specs.Counts.{number};
 ghost use Rattle.scheme.specs.Meaning.{anybody, nobody, readers, updated};
@@ -9,8 +9,9 @@ ghost use Rattle.scheme.specs.Visits.{under, visiting};
 use crate::interface::READERS;
 use crate::phase_number::PhaseNumber;
 use crate::reader::Reader;
+use crate::refused::Refused;
 
-// The table has a place for each reader, by its number. Here and below that is a cast, which the check proves to lose nothing: there is no `From<u32>` for `usize`.
+// The table has a place for each reader. By a cast, since a constant may call no function.
 const PLACES: usize = READERS as usize;
 
 /// Who is inside, and under which phase.
@@ -39,38 +40,36 @@ impl Visits {
         }
     }
 
-    /// A visit of the reader begins under the phase, unless it is inside already. Says whether it began.
+    /// A visit of the reader begins under the phase. Refused if it is inside.
     #[tactic(auto, using(crate::proofs::Phases::visiting_set, crate::proofs::Phases::entered_under, crate::proofs::Phases::room_left), unfolding(crate::specs::Visits::visiting))]
-    pub fn enter(&mut self, reader: Reader, phase: PhaseNumber) -> bool
-        ensures answer { result ≡ not (visiting self.old.table reader.number) }
-        ensures inside { result ≡ true → visiting self.new.table ≡ updated (visiting self.old.table) reader.number true }
-        ensures phases { result ≡ true → (p : PhaseNumber) → under self.new.table p ≡ updated (under self.old.table p) reader.number (same phase p) }
-        ensures kept { result ≡ false → self.new ≡ self.old }
+    pub fn enter(&mut self, reader: Reader, phase: PhaseNumber) -> Result<(), Refused>
+        ensures answer { is_ok result ≡ not (visiting self.old.table reader.number) }
+        ensures inside { OnOk result (visiting self.new.table ≡ updated (visiting self.old.table) reader.number true) }
+        ensures phases { OnOk result ((p : PhaseNumber) → under self.new.table p ≡ updated (under self.old.table p) reader.number (same phase p)) }
+        ensures kept { OnErr result (self.new ≡ self.old) }
     {
-        let place = reader.number as usize;
+        let place = usize::from(reader);
         let visit = self.table[place];
         if visit.is_some() {
-            return false;
+            return Err(Refused);
         }
         self.table[place] = Some(phase);
         self.counts[usize::from(phase)] += 1;
-        true
+        Ok(())
     }
 
-    /// The visit of the reader ends, if it is inside, and its phase has one reader less. Says whether one ended.
+    /// The visit of the reader ends, and its phase has one reader less. Refused if it is outside.
     #[tactic(auto, using(crate::proofs::Phases::visiting_set, crate::proofs::Phases::left_under, crate::proofs::Phases::some_counted), unfolding(crate::specs::Visits::visiting))]
-    pub fn leave(&mut self, reader: Reader) -> bool
-        ensures answer { result ≡ visiting self.old.table reader.number }
-        ensures inside { result ≡ true → visiting self.new.table ≡ updated (visiting self.old.table) reader.number false }
-        ensures phases { result ≡ true → (p : PhaseNumber) → under self.new.table p ≡ updated (under self.old.table p) reader.number false }
-        ensures kept { result ≡ false → self.new ≡ self.old }
+    pub fn leave(&mut self, reader: Reader) -> Result<(), Refused>
+        ensures answer { is_ok result ≡ visiting self.old.table reader.number }
+        ensures inside { OnOk result (visiting self.new.table ≡ updated (visiting self.old.table) reader.number false) }
+        ensures phases { OnOk result ((p : PhaseNumber) → under self.new.table p ≡ updated (under self.old.table p) reader.number false) }
+        ensures kept { OnErr result (self.new ≡ self.old) }
     {
-        let place = reader.number as usize;
-        let Some(phase) = self.table[place].take() else {
-            return false;
-        };
+        let place = usize::from(reader);
+        let phase = self.table[place].take().ok_or(Refused)?;
         self.counts[usize::from(phase)] -= 1;
-        true
+        Ok(())
     }
 
     /// Whether a reader is inside that entered under the phase; if not, all entered under the other.
