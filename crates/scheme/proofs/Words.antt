@@ -1,5 +1,5 @@
 -- Words of sixteen bits as sets of readers. Assumes nothing.
-use Rattle.std.proofs.Common.{◌≡◌, ℕ, ◌*◌, ◌-◌, ◌/◌, ◌%◌, ◌^◌, ◌<◌, true, false, not, arith}
+use Rattle.std.proofs.Common.{◌≡◌, ℕ, ◌*◌, ◌-◌, ◌/◌, ◌%◌, ◌^◌, ◌<◌, ◌≤◌, true, false, not, arith}
 use Rattle.std.specs.Prelude.{bit_and, bit_or, ◌==◌}
 use Rattle.std.proofs.Math.Path.{fun_ext}
 use Rattle.std.specs.Int.{w16}
@@ -13,6 +13,10 @@ use Rattle.scheme.specs.SoundSets.{bits_known}
 pub no_bit : has_bit 0 ≡ nobody
 unfolding has_bit
 no_bit = fun_ext (λ x. grind (arith, nat_tests, bit_at-zero x))
+
+pub none_high : (s x : ℕ) → 16 ≤ x → has_bit s x ≡ false
+unfolding has_bit
+none_high s x h = grind (arith, nat_tests)
 
 -- a bit is read by a shift and a mask
 pub bit_read : (s r : ℕ) → r < 16 → (bit_and (s / 2 ^ r) 1 == 1) ≡ has_bit s r

@@ -1,13 +1,9 @@
 -- Lemmas for the law of a scheme of bits: whom its sets can hold. Assumes nothing.
-use Rattle.std.specs.Prelude.{◌≡◌, ℕ, ◌<◌, ◌≤◌, true, false, Option, is_some}
+use Rattle.std.specs.Prelude.{◌≡◌, ℕ, ◌<◌, true, false, Option, is_some}
 use Rattle.std.proofs.Common.{arith}
 use Rattle.std.proofs.lemmas.Bool.Decides.{nat_tests}
 use Rattle.scheme.specs.declared.reader_set.ReaderSet.{ReaderSet}
 use Rattle.scheme.specs.ReaderSets.{has_bit, awaited_by}
-
-pub none_high : (s x : ℕ) → 16 ≤ x → has_bit s x ≡ false
-unfolding has_bit
-none_high s x h = grind (arith, nat_tests)
 
 pub bits_known : (s x : ℕ) → has_bit s x ≡ true → x < 16
 unfolding has_bit

@@ -33,7 +33,7 @@ impl Scheme for Bits {
         self.inside.insert(reader)
     }
 
-    #[tactic(auto, using(crate::specs::SoundSets::none_high))]
+    #[tactic(auto, using(crate::proofs::Words::none_high))]
     fn leave(&mut self, reader: u32) -> Result<(), Refused> {
         let reader = Reader::try_from(reader)?;
         self.inside.remove(reader)?;

@@ -28,6 +28,7 @@ impl ReaderSet {
         (self.bits >> reader.number) & 1 == 1
     }
 
+    // The clause `kept` stands at each call that may refuse, here and in `visits.rt`, since it speaks of two states and not of one value.
     /// Puts the reader in. Refused if it is in already.
     #[tactic(auto, using(crate::proofs::Words::bit_set))]
     pub fn insert(&mut self, reader: Reader) -> Result<(), Refused>

@@ -40,6 +40,7 @@ impl Visits {
         }
     }
 
+    // The clause `kept` stands at each call that may refuse, since it speaks of two states and not of one value.
     /// A visit of the reader begins under the phase. Refused if it is inside.
     #[tactic(auto, using(crate::proofs::Phases::visiting_set, crate::proofs::Phases::entered_under, crate::proofs::Phases::room_left), unfolding(crate::specs::Visits::visiting))]
     pub fn enter(&mut self, reader: Reader, phase: PhaseNumber) -> Result<(), Refused>
