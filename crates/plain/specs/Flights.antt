@@ -50,9 +50,16 @@ seven_nine cs = flown par_making 3 1 (place 7 0 ∷ place 9 7 ∷ cs)
 
 abbrev pub cut_under_a_walk : List Call
 cut_under_a_walk =
+    -- two entries, in nodes 1 and 2
     put 7 0 (pos 50) (pos 0) (pos 100) (pos 0) ∷ put 9 7 (pos 20) (pos 0) (pos 90) (pos 0) ∷
-    enter 0 ∷ from 0 9 ∷ step 0 ∷ cut 7 ∷ tend ∷ tend ∷ step 0 ∷ leave 0 ∷ tend ∷
-    put 7 9 (pos 51) (pos 0) (pos 100) (pos 0) ∷ leave 0 ∷ []
+    -- a reader that wants the second stands on the first
+    enter 0 ∷ from 0 9 ∷ step 0 ∷
+    -- which is cut under it: the wait lasts, and the reader finds its way on
+    cut 7 ∷ tend ∷ tend ∷ step 0 ∷
+    -- once the reader has left, the wait is over and the node is taken anew
+    leave 0 ∷ tend ∷ put 7 9 (pos 51) (pos 0) (pos 100) (pos 0) ∷
+    -- nobody leaves twice
+    leave 0 ∷ []
 
 pub record Flights : Type 0 where
   -- the largest board, and one reader or one node too many
