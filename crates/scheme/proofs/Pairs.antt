@@ -62,11 +62,7 @@ same_pair {first = first} {second = second} s t p q w = λ i. record {
   joins = is_prop→PathP (λ j. Joins (w j) (first.meaning (p j)) (second.meaning (q j))) (λ j. hlevel props) s.joins t.joins i;
 }
 
--- the same where one of the two refused
-pub same_first : {A B T E : Type 0} {first : _} {second : _} (r : Result T E) (s t : Pair A B first second) → OnErr r (s.first ≡ t.first) → s.second ≡ t.second → s.waits ≡ t.waits → OnErr r (s ≡ t)
-same_first (Ok x) s t p q w = tt
-same_first (Err e) s t p q w = same_pair s t p q w
-
-pub same_second : {A B T E : Type 0} {first : _} {second : _} (r : Result T E) (s t : Pair A B first second) → s.first ≡ t.first → OnErr r (s.second ≡ t.second) → s.waits ≡ t.waits → OnErr r (s ≡ t)
-same_second (Ok x) s t p q w = tt
-same_second (Err e) s t p q w = same_pair s t p q w
+-- the same where a call was refused
+pub same_refused : {A B T E : Type 0} {first : _} {second : _} (r : Result T E) (s t : Pair A B first second) → OnErr r (s.first ≡ t.first) → OnErr r (s.second ≡ t.second) → s.waits ≡ t.waits → OnErr r (s ≡ t)
+same_refused (Ok x) s t p q w = tt
+same_refused (Err e) s t p q w = same_pair s t p q w

@@ -40,6 +40,14 @@ impl Visits {
         }
     }
 
+    /// Whether the reader is inside.
+    #[tactic(auto, unfolding(crate::specs::Visits::visiting))]
+    pub fn contains(&self, reader: Reader) -> bool
+        ensures { result ≡ visiting self.now.table reader.number }
+    {
+        self.table[usize::from(reader)].is_some()
+    }
+
     // The clause `kept` stands at each call that may refuse, since it speaks of two states and not of one value.
     /// A visit of the reader begins under the phase. Refused if it is inside.
     #[tactic(auto, using(crate::proofs::Phases::visiting_set, crate::proofs::Phases::entered_under, crate::proofs::Phases::room_left), unfolding(crate::specs::Visits::visiting))]
@@ -49,11 +57,10 @@ impl Visits {
         ensures phases { OnOk result ((p : PhaseNumber) → under self.new.table p ≡ updated (under self.old.table p) reader.number (same phase p)) }
         ensures kept { OnErr result (self.new ≡ self.old) }
     {
-        let place = usize::from(reader);
-        let visit = self.table[place];
-        if visit.is_some() {
+        if self.contains(reader) {
             return Err(Refused);
         }
+        let place = usize::from(reader);
         self.table[place] = Some(phase);
         self.counts[usize::from(phase)] += 1;
         Ok(())
