@@ -18,7 +18,7 @@ use Rattle.plain.specs.Sightings.{Leaves}
 use Rattle.plain.proofs.Links.{raised}
 use Rattle.plain.proofs.Shape.{Shaped, Guarded, Turned}
 use Rattle.plain.proofs.Placing.{Turn}
-use Rattle.plain.proofs.Grace.{begin_shaped, over_shaped, over_turned}
+use Rattle.plain.proofs.Grace.{begin_shaped, over_shaped, begin_turned, over_turned, quiet_turned}
 
 -- if nobody is in a set, no reader is
 none_in : (f : ℕ → Bool) → anybody f ≡ false → (k : ℕ) → k < 16 → f k ≡ false
@@ -50,7 +50,7 @@ module _ {b : Board} {stage rank : ℕ → ℕ} (f : Fine b stage rank) (a : Are
     fine = f;
     sized = refl;
     stays = λ r i n. i;
-    turned = λ r i n. grind arith;
+    turned = λ r i n. quiet_turned f.shaped a (b.who.awaited r) (b.who.awaited r) refl;
   }
 
   -- the uplink changes the list
@@ -84,7 +84,7 @@ module _ {b : Board} {stage rank : ℕ → ℕ} (f : Fine b stage rank) (a : Are
     };
     sized = refl;
     stays = λ u i n. i;
-    turned = λ u i n. grind arith;
+    turned = λ u i n. quiet_turned f.shaped a (b.who.awaited u) (b.who.awaited u) refl;
   }
 
   pub at_head : (aw : Bool) → Guarded stage aw 0
@@ -109,7 +109,7 @@ module _ {b : Board} {stage rank : ℕ → ℕ} (f : Fine b stage rank) (a : Are
     };
     sized = refl;
     stays = λ u i n. grind arith;
-    turned = λ u i n. grind arith;
+    turned = λ u i n. quiet_turned f.shaped a (b.who.awaited u) (w.awaited u) (same u (other u i n)).1;
   }
 
   pub reader_enters : (making : Making) (r : ℕ) → r < b.readers → b.who.inside r ≡ false → Follows b a stage (moment (Call.enter r) (accepted making b a (Call.enter r)))
@@ -145,7 +145,7 @@ module _ {b : Board} {stage rank : ℕ → ℕ} (f : Fine b stage rank) (a : Are
     };
     sized = refl;
     stays = λ u i n. i;
-    turned = λ u i n. grind arith;
+    turned = λ u i n. begin_turned f.shaped a (b.who.awaited u) (b.who.inside u) i;
   })
     where
       begun_now : (on_begin b.who).next ≡ begun b.who

@@ -1,6 +1,6 @@
 -- A wait begins, and is found over:
 -- the pool is sound again, and a reader that was not awaited stands on no node that is freed. Assumes nothing.
-use Rattle.std.proofs.Common.{◌≡◌, ℕ, Bool, false, [], refl, inl, arith}
+use Rattle.std.proofs.Common.{◌≡◌, ℕ, Bool, true, false, [], refl, inl, arith}
 use Rattle.plain.specs.Pools.{Pool, Move, Need, covering, freeing, at_over}
 use Rattle.plain.specs.Boards.{Area}
 use Rattle.plain.proofs.Links.{raised}
@@ -37,6 +37,10 @@ module _ {size : ℕ} {q : Pool} {stage rank : ℕ → ℕ} (s : Shaped size q s
     somewhere = λ x n l. over_somewhere x (s.somewhere x n l);
   }
 
+  -- a wait begins, and the reader is inside
+  pub begin_turned : (a : Area) (aw aw' : Bool) → aw' ≡ true → Turned q (covering q) a a stage (λ x. raised 1 (stage x)) aw aw'
+  begin_turned a aw aw' e = grind arith
+
   -- a wait is found over, and the reader is not awaited
   pub over_turned : (a : Area) (aw aw' : Bool) → aw ≡ false → Turned q (freeing q) a a stage (λ x. raised 2 (stage x)) aw aw'
   over_turned a aw aw' e = record {
@@ -46,3 +50,7 @@ module _ {size : ℕ} {q : Pool} {stage rank : ℕ → ℕ} (s : Shaped size q s
     fwd = λ x z l b. Carried.stays b;
     owed = λ c w. (owed_over q.move aw aw' c e w, λ x b. b);
   }
+
+  -- nothing of the pool changes
+  pub quiet_turned : (a : Area) (aw aw' : Bool) → aw' ≡ aw → Turned q q a a stage stage aw aw'
+  quiet_turned a aw aw' e = grind arith

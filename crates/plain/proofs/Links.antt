@@ -78,6 +78,13 @@ pub record Free (stage : ℕ → ℕ) (y : ℕ) : Type 0 where
   pub ne : y ≢ 0
   pub live_ne : (x : ℕ) → stage x < 3 → x ≢ y
 
+pub free_at : {lk stage rank : ℕ → ℕ} → Ordered lk stage rank → {y : ℕ} → stage y ≡ 3 → Free stage y
+free_at {stage = stage} o k = record {
+  is_free = k;
+  ne = λ e. omega (arith, ap stage e, o.head);
+  live_ne = λ x l e. omega (arith, ap stage e);
+}
+
 module _ {lk lk' stage rank : ℕ → ℕ} (o : Ordered lk stage rank) (p y : ℕ) (s : Spliced lk lk' p y) (kp : stage p ≡ 0) (g : Free stage y) where
   pub splice_fwd : {z x : ℕ} → stage x < 3 → Ahead lk z x → Ahead lk' z x
   splice_fwd {z} {x} l (next n e) = elim (cases_eq x p) [

@@ -4,7 +4,7 @@ use Rattle.std.proofs.Common.{◌≡◌, ℕ, ◌-◌, ◌<◌, ◌≢◌, List,
 use Rattle.scheme.proofs.Sets.{updated_at, updated_elsewhere}
 use Rattle.plain.specs.Pools.{Pool, Move, link_of, link_to, filled, head_or_0}
 use Rattle.plain.specs.Boards.{Area, Record, record_at, with_record}
-use Rattle.plain.proofs.Links.{Free}
+use Rattle.plain.proofs.Links.{Free, free_at}
 use Rattle.plain.proofs.Lists.{In}
 use Rattle.plain.proofs.Shape.{Shaped, Same}
 
@@ -49,13 +49,7 @@ pub record Filling (q : Pool) (stage : ℕ → ℕ) (k v p y : ℕ) : Type 0 whe
 
 module _ {size : ℕ} {q : Pool} {stage rank : ℕ → ℕ} (s : Shaped size q stage rank) {y : ℕ} {rest : List ℕ} (free : q.free ≡ y ∷ rest) where
   first_free : Free stage y
-  first_free =
-      let fresh = s.books.in_free y (rw free (In.first refl)) in
-      record {
-        is_free = fresh.0;
-        ne = λ e. omega (arith, ap stage e, s.ordered.head);
-        live_ne = λ x l e. omega (arith, ap stage e);
-      }
+  first_free = free_at s.ordered (s.books.in_free y (rw free (In.first refl))).0
 
   pub filling : (k v : ℕ) {p : ℕ} → stage p ≡ 0 → Filling q stage k v p y
   filling k v {p} kp =

@@ -1,5 +1,5 @@
 -- What one poll says and leaves. Assumes nothing.
-use Rattle.std.proofs.Common.{◌≡◌, ℕ, ◌<◌, true, arith}
+use Rattle.std.proofs.Common.{◌≡◌, ℕ, ◌<◌, true, false, arith}
 use Rattle.std.proofs.lemmas.Bool.Decides.{nat_tests}
 use Rattle.scheme.specs.Meaning.{Meaning, Sound, anybody}
 use Rattle.scheme.specs.Polls.{on_poll, says_not_yet}
@@ -18,3 +18,7 @@ known_awaited m s r t = s.known r (s.within r t)
 
 pub awaited_stay : (m : Meaning) → Sound m → (x : ℕ) → (on_poll m).next.awaited x ≡ m.awaited x
 awaited_stay m s x = grind (arith, nat_tests, none_in m.awaited, known_awaited m s)
+
+-- with nobody awaited it leaves no wait open
+pub closes : (m : Meaning) → anybody m.awaited ≡ false → (on_poll m).next.waits ≡ false
+closes m e = grind (arith, nat_tests)
